@@ -1,0 +1,42 @@
+-- The laws of tests: of `either` and `both` by cases, and of what a test picks.
+-- Assumes nothing.
+use mathlib.Core.Path.{_≡_, refl, sym, subst}
+use mathlib.Core.Logic.{_⊎_, inl, inr}
+use mathlib.Core.Bool.{Bool, true, false}
+use lib.Dec.{T}
+use Rattle.rst_bytes.specs.Tests.{either, both}
+
+module _ {A : Type 0} where
+  -- of one test, what holds of either answer holds of its answer
+  pub by-test : (P : A → Type 0) (t : Bool) (x y : A) → (t ≡ true → P x) → (t ≡ false → P y) → P (elim t [ true ↦ x | false ↦ y ])
+  by-test P true x y f g = f refl
+  by-test P false x y f g = g refl
+
+  -- of two uses of one test, what relates their answers relates what they pick
+  pub by-test₂ : (P : A → A → Type 0) (t : Bool) (x y x′ y′ : A) → (t ≡ true → P x x′) → (t ≡ false → P y y′) → P (elim t [ true ↦ x | false ↦ y ]) (elim t [ true ↦ x′ | false ↦ y′ ])
+  by-test₂ P true x y x′ y′ f g = f refl
+  by-test₂ P false x y x′ y′ f g = g refl
+
+pub either-right : (b : Bool) → either b false ≡ b
+either-right true = refl
+either-right false = refl
+
+pub either-true : (b : Bool) → either b true ≡ true
+either-true true = refl
+either-true false = refl
+
+pub either-cases : (a b : Bool) → either a b ≡ true → (a ≡ true) ⊎ (b ≡ true)
+either-cases true b e = inl refl
+either-cases false b e = inr e
+
+pub both-false : (b : Bool) → both b false ≡ false
+both-false true = refl
+both-false false = refl
+
+pub both-true : (b : Bool) → both b true ≡ b
+both-true true = refl
+both-true false = refl
+
+pub both-parts : (a b : Bool) → both a b ≡ true → (a ≡ true) × (b ≡ true)
+both-parts true b e = (refl, e)
+both-parts false b e = absurd (subst T (sym e) tt)

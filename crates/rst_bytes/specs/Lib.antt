@@ -1,0 +1,37 @@
+-- What the bytes layer promises: document 01, "Bytes and the `nom` pieces".
+--
+-- Each definition, and the public function whose contract is an equation with it, on every input:
+--   Domain    charOf           domain::char_at          the character that starts at a place
+--             outsideOf        domain::first_outside    the first byte that starts no character
+--   Word      isWord           word::is_word            a word character
+--             wordOf           word::word_run           the maximal run of word characters
+--   Trim      trimOf           trim::trim_end           the front part up to the last character that is not blank
+--   Escaped   isEscapable      escaped::is_escapable    ESCAPABLE
+--             escapedOf        escaped::escaped         a part up to a stop byte
+--   Line      newlineOf        line::newline            LF
+--             lineEndingOf     line::line_ending        LF or CR LF
+--             notLineEndingOf  line::not_line_ending    the rest of the line
+--             isSpace          line::is_space           space, tab
+--             space0Of         line::space0             spaces and tabs
+--             space1Of         line::space1             the same, at least one
+--             isMultispace     line::is_multispace      space, tab, CR, LF
+--             multispace0Of    line::multispace0        a run of these
+--   Appending Body, Tail, free                          what the laws on appended text speak of
+--
+-- Laws, proved in the file of proofs/ that is named, for the layers above:
+--   within the input   DomainLaws char-within, char-at-within, run-within, outside-within; WordLaws word-within; TrimLaws
+--                      trim-within; EscapedLaws taken-le; LineLaws newline-le, line-ending-le, not-line-ending-le, space0-le,
+--                      space1-le, multispace0-le
+--   progress           DomainLaws char-within; EscapedLaws taken-pos; LineLaws newline-pos, line-ending-pos, space1-pos
+--   what follows       DomainLaws char-inside, inside-at: no character starts inside another; EscapedLaws taken-stop: a part
+--                      ends before a stop byte, stop-is: which is one of two; LineLaws not-line-ending-end: a line ends before
+--                      a line ending
+--   appending          LineLaws body-drop; on s ++ 10 ∷ t: DomainLaws char-lf, outside-lf, run-lf; WordLaws word-lf; EscapedLaws refused-lf,
+--                      taken-lf, open-lf; LineLaws newline-lf, line-ending-lf, not-line-ending-lf, space0-lf, space1-lf
+pub mod Tests
+pub mod Domain
+pub mod Word
+pub mod Trim
+pub mod Escaped
+pub mod Line
+pub mod Appending
