@@ -1,9 +1,7 @@
 -- Worked examples of the definitions, one list for each, checked by computation.
 -- Assumes nothing.
-use Prim.Native.Nat.{ℕ}
 use mathlib.Core.Path.{_≡_, refl}
-use mathlib.Core.List.{List, [], _∷_, _++_, map}
-use mathlib.Core.Bool.{true, false}
+use mathlib.Core.List.{[], _∷_, _++_, map}
 use lib.ListN.{replicate}
 use Rattle.rst_bytes.specs.Domain.{isPair, charOf, run, outsideOf}
 use Rattle.rst_bytes.specs.Word.{isAsciiWord, isWord, inRanges, wordRanges, wordOf}
@@ -85,6 +83,11 @@ parts :
     ≡ Taken 0 ∷ Taken 2 ∷ Taken 3 ∷ Refused ∷ Refused ∷ Refused ∷ []
 unfolding escapedOf taking isStop isEscapable
 parts = refl
+
+-- LF, CR LF, another byte, nothing
+newlines : map newlineOf ((0x0A ∷ []) ∷ (0x0D ∷ 0x0A ∷ []) ∷ (0x61 ∷ []) ∷ [] ∷ []) ≡ Taken 1 ∷ Refused ∷ Refused ∷ Refused ∷ []
+unfolding newlineOf
+newlines = refl
 
 -- LF, CR LF, CR alone, CR and another byte, another byte, nothing
 ends :

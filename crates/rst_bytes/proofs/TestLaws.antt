@@ -33,10 +33,6 @@ pub both-false : (b : Bool) → both b false ≡ false
 both-false true = refl
 both-false false = refl
 
-pub both-true : (b : Bool) → both b true ≡ b
-both-true true = refl
-both-true false = refl
-
 pub both-parts : (a b : Bool) → both a b ≡ true → (a ≡ true) × (b ≡ true)
 both-parts true b e = (refl, e)
 both-parts false b e = absurd (subst T (sym e) tt)

@@ -4,15 +4,14 @@ use Prim.Native.Nat.{ℕ, zero, suc, _+_, _-_, _*_, _≤_, _<_, zero-le, suc-le-
 use native.Mathlib.Nat.{le-refl, le-trans, lt-of-lt-of-le, le-of-lt, le-of-suc-le-suc, not-suc-le-zero, add-zero, add-suc}
 use native.Mathlib.Numerals.{add-one}
 use native.Mathlib.Omega.{arith}
-use mathlib.Core.Path.{_≡_, refl, sym, subst}
-use mathlib.Core.Logic.{_⊎_, inl, inr, ⊎-elim}
+use mathlib.Core.Path.{_≡_, refl}
+use mathlib.Core.Logic.{_⊎_, inl, ⊎-elim}
 use mathlib.Core.List.{List, [], _∷_, _++_}
 use mathlib.Core.Bool.{Bool, true, false}
 use lib.Dec.{T, leb, ltb, leb→le, ltb→lt}
 use lib.ListN.{length, getD}
 use borrow.Author.Tests.{le-leb, lt-leb, ne-eqb}
-use Rattle.rst_bytes.specs.Tests.{both, between}
-use Rattle.rst_bytes.specs.Domain.{run}
+use Rattle.rst_bytes.specs.Tests.{both}
 use Rattle.rst_bytes.specs.Word.{inRanges, apart, wordRanges, isAsciiWord, isWord, wordOf}
 use Rattle.rst_bytes.proofs.TestLaws.{either-true, either-right, both-false}
 use Rattle.rst_bytes.proofs.DomainLaws.{run-within, run-lf}

@@ -5,7 +5,7 @@ use Prim.Native.Nat.{ℕ, _+_}
 use mathlib.Core.List.{List, [], _∷_}
 use mathlib.Core.Bool.{Bool, true, false}
 use lib.Dec.{eqb}
-use Rattle.rst_bytes.specs.Tests.{either, oneOf}
+use Rattle.rst_bytes.specs.Tests.{oneOf}
 use Rattle.rst_bytes.specs.declared.Part.{Part}
 use Rattle.rst_bytes.specs.declared.Part.the-variants.{Taken, Refused}
 

@@ -4,7 +4,7 @@
 #[path = "../../nom/tests/table/mod.rs"]
 mod table;
 
-use parse_hyperlinks::parser::restructured_text::{
+use parse_hyperlinks_visible::parser::restructured_text::{
     remove_whitespace, rst_escaped_link_destination_transform, rst_escaped_link_text_transform,
     rst_explicit_markup_block, rst_label2target, rst_parse_label2target, rst_parse_simple_label,
     rst_parse_text2label, rst_parse_text2target,

@@ -1,10 +1,9 @@
 -- `char_at` meets its contract: each way out is one case of `charOf`, and a pair's bounds keep its code point in range.
 -- Assumes nothing.
-use mathlib.Core.Path.{_≡_, sym, _∙_}
+use mathlib.Core.Path.{sym, _∙_}
 use native.Mathlib.Omega.{arith}
 use borrow.Author.Needs.{needs}
-use lib.ListN.{getD}
-use Rattle.rst_bytes.proofs.DomainLaws.{Bounds, pair-bounds, at-end, at-one, at-last, at-pair, at-none}
+use Rattle.rst_bytes.proofs.DomainLaws.{pair-bounds, at-end, at-one, at-last, at-pair, at-none}
 use Rattle.rst_bytes.proofs.domain.char_at.Statement.{statement}
 use Rattle.rst_bytes.proofs.domain.char_at.Tie as tie
 

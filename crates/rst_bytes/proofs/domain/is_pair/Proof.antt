@@ -3,7 +3,7 @@
 use native.Mathlib.Omega.{arith}
 use borrow.Author.Tests.{le-leb, lt-leb, eq-eqb, ne-eqb}
 use Rattle.rst_bytes.specs.Domain.{isPair}
-use Rattle.rst_bytes.proofs.TestLaws.{both-false, both-true}
+use Rattle.rst_bytes.proofs.TestLaws.{both-false}
 use Rattle.rst_bytes.proofs.domain.is_pair.Statement.{statement}
 use Rattle.rst_bytes.proofs.domain.is_pair.Tie as tie
 

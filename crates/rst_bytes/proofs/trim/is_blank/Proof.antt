@@ -3,7 +3,7 @@
 use native.Mathlib.Omega.{arith}
 use borrow.Author.Tests.{le-leb, lt-leb, eq-eqb, ne-eqb}
 use Rattle.rst_bytes.specs.Trim.{isBlank}
-use Rattle.rst_bytes.proofs.TestLaws.{both-false, either-right}
+use Rattle.rst_bytes.proofs.TestLaws.{both-false}
 use Rattle.rst_bytes.proofs.trim.is_blank.Statement.{statement}
 use Rattle.rst_bytes.proofs.trim.is_blank.Tie as tie
 

@@ -3,13 +3,13 @@ use Prim.Native.Nat.{ℕ, _-_}
 -- ends at n, and then n is the length of the trimmed text.
 -- Assumes nothing.
 use Prim.Native.Nat.{_≤_}
-use mathlib.Core.Path.{_≡_, refl, sym, ap, _∙_}
+use mathlib.Core.Path.{_≡_, sym, ap, _∙_}
 use mathlib.Core.Bool.{true}
 use native.Mathlib.Omega.{arith}
 use borrow.Author.Needs.{needs}
 use lib.ListN.{length, drop, take}
 use lib.Seq.{length-take-le, drop-length}
-use Rattle.rst_bytes.specs.Trim.{blanks, trimOf}
+use Rattle.rst_bytes.specs.Trim.{blanks}
 use Rattle.rst_bytes.proofs.TrimLaws.{Ends, blanks-none, blanks-back, ends-trim}
 use Rattle.rst_bytes.proofs.trim.trim_end.Statement.{statement}
 use Rattle.rst_bytes.proofs.trim.trim_end.Tie as tie

@@ -3,7 +3,7 @@
 use native.Mathlib.Omega.{arith}
 use borrow.Author.Tests.{le-leb, lt-leb, ne-eqb}
 use Rattle.rst_bytes.specs.Word.{isAsciiWord}
-use Rattle.rst_bytes.proofs.TestLaws.{both-false, both-true, either-true, either-right}
+use Rattle.rst_bytes.proofs.TestLaws.{both-false, either-right}
 use Rattle.rst_bytes.proofs.word.is_ascii_word.Statement.{statement}
 use Rattle.rst_bytes.proofs.word.is_ascii_word.Tie as tie
 

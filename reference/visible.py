@@ -1,5 +1,6 @@
-"""Puts `pub` before private functions of restructured_text.rs, so that the
-parsers can be compared one by one. Changes no behaviour."""
+"""Puts `pub` before private functions of restructured_text.rs, in a second
+package, so that the parsers can be compared one by one. The reference itself
+does without."""
 
 from rust_edits import replace
 
