@@ -1,4 +1,5 @@
--- The laws of characters and of runs of them: one step at a position, lengths, and what a line feed behind the text changes.
+-- The laws of characters and of runs of them: the character at a position, lengths, one step of a run, and what a line feed
+-- behind the text changes. Up to `char-lf` they go by the two kinds of characters; the laws of `run` need only these.
 -- Assumes nothing.
 use Prim.Native.Nat.{ℕ, zero, suc, _+_, _-_, _<_, _≤_}
 use native.Mathlib.Nat.{add-zero, add-assoc}
@@ -17,8 +18,8 @@ use Rattle.rst_bytes.specs.declared.Character.{Character}
 use Rattle.rst_bytes.specs.declared.Character.the-variants.{Starts, Nothing}
 use Rattle.rst_bytes.specs.declared.Outside.{Outside}
 use Rattle.rst_bytes.specs.declared.Outside.the-variants.{At, Nowhere}
-use Rattle.rst_bytes.proofs.Lists.{drop-next, drop-two, drop-end, drop-last, lt-or-le}
-use Rattle.rst_bytes.proofs.TestLaws.{both-parts, either-cases, both-false}
+use Rattle.rst_bytes.proofs.Lists.{drop-next, drop-two, drop-end, drop-last}
+use Rattle.rst_bytes.proofs.TestLaws.{both-parts, either-cases, both-false, lt-or-le}
 
 -- the bytes of a pair
 pub record Bounds (b c : ℕ) : Type 0 where

@@ -1,11 +1,7 @@
 -- A list from a position on, by its next one and two elements, in the code's `i + 1` and `i + 2`.
 -- Assumes nothing.
 use Prim.Native.Nat.{ℕ, suc, _+_, _-_, _<_, _≤_}
-use mathlib.Core.Path.{_≡_, refl, ap, _∙_}
-use mathlib.Core.Logic.{_⊎_, inl, inr}
-use mathlib.Core.Bool.{Bool, true, false}
-use lib.Dec.{ltb}
-use borrow.Author.Tests.{ltb-true, ltb-false}
+use mathlib.Core.Path.{_≡_, ap, _∙_}
 use mathlib.Core.List.{List, [], _∷_}
 use native.Mathlib.Numerals.{add-one}
 use native.Mathlib.Omega.{arith}
@@ -28,11 +24,3 @@ module _ (s : List ℕ) (i : ℕ) where
   -- the last element
   pub drop-last : i < length s → length s ≤ i + 1 → drop i s ≡ getD s i 0 ∷ []
   drop-last h e = drop-next h ∙ ap (λ (l : List ℕ). getD s i 0 ∷ l) (drop-of-length-le s e)
-
--- of two numbers, by the test
-pub lt-or-le : (a b : ℕ) → (a < b) ⊎ (b ≤ a)
-lt-or-le a b = go (ltb a b) refl
-  where
-    go : (t : Bool) → ltb a b ≡ t → (a < b) ⊎ (b ≤ a)
-    go true e = inl (ltb-true a b e)
-    go false e = inr (ltb-false a b e)

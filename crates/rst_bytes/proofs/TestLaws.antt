@@ -1,9 +1,11 @@
--- The laws of tests: of `either` and `both` by cases, and of what a test picks.
+-- The laws of tests: what a test picks, `either` and `both` by cases, and two numbers by their test.
 -- Assumes nothing.
 use mathlib.Core.Path.{_≡_, refl, sym, subst}
 use mathlib.Core.Logic.{_⊎_, inl, inr}
 use mathlib.Core.Bool.{Bool, true, false}
-use lib.Dec.{T}
+use Prim.Native.Nat.{ℕ, _<_, _≤_}
+use lib.Dec.{T, ltb}
+use borrow.Author.Tests.{ltb-true, ltb-false}
 use Rattle.rst_bytes.specs.Tests.{either, both}
 
 module _ {A : Type 0} where
@@ -36,3 +38,11 @@ both-false false = refl
 pub both-parts : (a b : Bool) → both a b ≡ true → (a ≡ true) × (b ≡ true)
 both-parts true b e = (refl, e)
 both-parts false b e = absurd (subst T (sym e) tt)
+
+-- of two numbers the first is below the second, or not
+pub lt-or-le : (a b : ℕ) → (a < b) ⊎ (b ≤ a)
+lt-or-le a b = go (ltb a b) refl
+  where
+    go : (t : Bool) → ltb a b ≡ t → (a < b) ⊎ (b ≤ a)
+    go true e = inl (ltb-true a b e)
+    go false e = inr (ltb-false a b e)

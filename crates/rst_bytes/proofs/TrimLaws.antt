@@ -1,5 +1,6 @@
--- The laws of `trimOf`: a front after which only blank characters stand, and before whose end no blank character ends, is the
--- trimmed text. For a run of blank characters that began earlier would pass its end, and characters do not overlap.
+-- The laws of `trimOf`: a front after which only blank characters stand, and at whose end no blank character ends, is the trimmed
+-- text. For if only blank characters stood from an earlier place on, one of them would end there, or go past it; and no character
+-- goes past a place where another starts.
 -- Assumes nothing.
 use Prim.Native.Nat.{ℕ, zero, suc, _+_, _-_, _<_, _≤_}
 use native.Mathlib.Omega.{arith}
@@ -9,7 +10,7 @@ use mathlib.Core.List.{List, [], _∷_}
 use mathlib.Core.Bool.{Bool, true, false}
 use lib.ListN.{length, drop, length-drop}
 use lib.Seq.{drop-drop}
-use Rattle.rst_bytes.proofs.Lists.{lt-or-le}
+use Rattle.rst_bytes.proofs.TestLaws.{lt-or-le}
 use borrow.Author.Tests.{eqb-true, eq-eqb}
 use Rattle.rst_bytes.specs.Domain.{charOf, run}
 use Rattle.rst_bytes.specs.Trim.{isBlank, blankOf, blanks, trimOf}

@@ -1,11 +1,17 @@
 -- `char_at` meets its contract: each way out is one case of `charOf`, and a pair's bounds keep its code point in range.
 -- Assumes nothing.
 use mathlib.Core.Path.{sym, _∙_}
+use Prim.Native.Nat.{_+_}
+use lib.ListN.{getD}
 use native.Mathlib.Omega.{arith}
 use borrow.Author.Needs.{needs}
-use Rattle.rst_bytes.proofs.DomainLaws.{pair-bounds, at-end, at-one, at-last, at-pair, at-none}
+use Rattle.rst_bytes.proofs.DomainLaws.{Bounds, pair-bounds, at-end, at-one, at-last, at-pair, at-none}
 use Rattle.rst_bytes.proofs.domain.char_at.Statement.{statement}
 use Rattle.rst_bytes.proofs.domain.char_at.Tie as tie
+
+-- the two bytes of the pair
+bounds : (c : tie.Then4) → Bounds (getD (c .before .before .before .before .before .before .before .before .args .s .now) (c .before .before .before .before .before .before .before .before .args .i) 0) (getD (c .before .before .before .before .before .before .before .before .args .s .now) (c .before .before .before .before .before .before .before .before .args .i + 1) 0)
+bounds c = pair-bounds _ _ (sym (c .before .is-pair .ensures) ∙ c .if4 .taken)
 
 returns : tie.Need-returns
 returns c = sym (at-end _ _ (c .if1 .taken))
@@ -32,34 +38,22 @@ is-pair-requires : tie.Need-is-pair-requires
 is-pair-requires c κs = search needs
 
 cast-point : tie.Need-cast-point
-cast-point c =
-    let b = pair-bounds _ _ (sym (c .before .is-pair .ensures) ∙ c .if4 .taken) in
-    omega arith
+cast-point c = omega (arith, bounds c)
 
 sub-point : tie.Need-sub-point
-sub-point c =
-    let b = pair-bounds _ _ (sym (c .before .is-pair .ensures) ∙ c .if4 .taken) in
-    omega arith
+sub-point c = omega (arith, bounds c)
 
 mul-point : tie.Need-mul-point
-mul-point c =
-    let b = pair-bounds _ _ (sym (c .before .is-pair .ensures) ∙ c .if4 .taken) in
-    omega arith
+mul-point c = omega (arith, bounds c)
 
 cast-point-2 : tie.Need-cast-point-2
-cast-point-2 c =
-    let b = pair-bounds _ _ (sym (c .before .is-pair .ensures) ∙ c .if4 .taken) in
-    omega arith
+cast-point-2 c = omega (arith, bounds c)
 
 sub-point-2 : tie.Need-sub-point-2
-sub-point-2 c =
-    let b = pair-bounds _ _ (sym (c .before .is-pair .ensures) ∙ c .if4 .taken) in
-    omega arith
+sub-point-2 c = omega (arith, bounds c)
 
 add-point : tie.Need-add-point
-add-point c =
-    let b = pair-bounds _ _ (sym (c .before .is-pair .ensures) ∙ c .if4 .taken) in
-    omega arith
+add-point c = omega (arith, bounds c)
 
 returns-4 : tie.Need-returns-4
 returns-4 c = sym (at-pair (c .before .before .before .before .before .before .before .before .args .s .now) (c .before .before .before .before .before .before .before .before .args .i) (omega arith) (omega arith) (sym (c .before .is-pair .ensures) ∙ c .if4 .taken))

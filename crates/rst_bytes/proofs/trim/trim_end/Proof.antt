@@ -1,8 +1,7 @@
-use Prim.Native.Nat.{ℕ, _-_}
 -- `trim_end` meets its contract. The loop's invariant: only blank characters stand from n on. It ends where no blank character
 -- ends at n, and then n is the length of the trimmed text.
 -- Assumes nothing.
-use Prim.Native.Nat.{_≤_}
+use Prim.Native.Nat.{ℕ, _-_, _≤_}
 use mathlib.Core.Path.{_≡_, sym, ap, _∙_}
 use mathlib.Core.Bool.{true}
 use native.Mathlib.Omega.{arith}

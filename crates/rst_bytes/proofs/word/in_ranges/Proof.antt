@@ -1,7 +1,7 @@
 -- `in_ranges` meets its contract. The loop's invariant: every range before lo ends below c, and every range from hi on begins
 -- above it; that the table rises carries this over the halves that are left out.
 -- Assumes nothing.
-use Rattle.rst_bytes.proofs.Lists.{lt-or-le}
+use Rattle.rst_bytes.proofs.TestLaws.{lt-or-le}
 use Rattle.rst_bytes.proofs.WordLaws.{rises, hit, miss}
 use lib.ListN.{length, getD}
 use borrow.Author.Needs.{needs}
