@@ -7,7 +7,7 @@ use native.Mathlib.Omega.{arith}
 use mathlib.Core.Path.{_≡_, refl, sym, ap, _∙_}
 use mathlib.Core.Logic.{_⊎_, inl, inr, ⊎-elim}
 use mathlib.Core.List.{List, [], _∷_, _++_}
-use mathlib.Core.Bool.{Bool, true, false}
+use mathlib.Core.Bool.{Bool, true, false, and-false, and-eq-true-iff}
 use lib.Dec.{ltb, leb, eqb}
 use lib.ListN.{length, getD, drop, length-drop, length-append}
 use lib.Seq.{getD-drop, drop-drop}
@@ -19,7 +19,7 @@ use Rattle.rst_bytes.specs.declared.Character.the-variants.{Starts, Noth
 use Rattle.rst_bytes.specs.declared.Outside.{Outside}
 use Rattle.rst_bytes.specs.declared.Outside.the-variants.{At, Nowhere}
 use Rattle.rst_bytes.proofs.Lists.{drop-next, drop-two, drop-end, drop-last}
-use Rattle.rst_bytes.proofs.TestLaws.{both-parts, either-cases, both-false, lt-or-le}
+use Rattle.rst_bytes.proofs.TestLaws.{or-cases, lt-or-le}
 
 -- the bytes of a pair
 pub record Bounds (b c : ℕ) : Type 0 where
@@ -33,9 +33,9 @@ unfolding isPair
 pair-bounds b c e =
     ⊎-elim
     (λ w.
-    let x = both-parts (between 0xC2 0xC8 b) (between 0x80 0xBF c) w in
-    let y = both-parts (leb 0xC2 b) (leb b 0xC8) (x .0) in
-    let z = both-parts (leb 0x80 c) (leb c 0xBF) (x .1) in
+    let x = and-eq-true-iff (between 0xC2 0xC8 b) (between 0x80 0xBF c) .0 w in
+    let y = and-eq-true-iff (leb 0xC2 b) (leb b 0xC8) .0 (x .0) in
+    let z = and-eq-true-iff (leb 0x80 c) (leb c 0xBF) .0 (x .1) in
     record {
       first-low = leb-true _ _ (y .0);
       first-high = omega (arith, leb-true b 0xC8 (y .1));
@@ -43,16 +43,16 @@ pair-bounds b c e =
       second-high = leb-true _ _ (z .1);
     })
     (λ w.
-    let x = both-parts (eqb b 0xC9) (between 0x80 0x8F c) w in
+    let x = and-eq-true-iff (eqb b 0xC9) (between 0x80 0x8F c) .0 w in
     let y = eqb-true b 0xC9 (x .0) in
-    let z = both-parts (leb 0x80 c) (leb c 0x8F) (x .1) in
+    let z = and-eq-true-iff (leb 0x80 c) (leb c 0x8F) .0 (x .1) in
     record {
       first-low = omega arith;
       first-high = omega arith;
       second-low = leb-true _ _ (z .0);
       second-high = omega (arith, leb-true c 0x8F (z .1));
     })
-    (either-cases _ _ e)
+    (or-cases _ _ e)
 
 -- The character at a position, by the tests of the code.
 module _ (s : List ℕ) (i : ℕ) where
@@ -154,7 +154,7 @@ inside-at s k n p j e h l =
 
 lf-no-second : (b : ℕ) → isPair b 10 ≡ false
 unfolding isPair
-lf-no-second b = simp both-false
+lf-no-second b = simp and-false
 
 lf-char : (t : List ℕ) → charOf (10 ∷ t) ≡ Starts 1 10
 unfolding charOf

@@ -16,7 +16,7 @@ use Rattle.rst_bytes.specs.declared.Part.the-variants.{Taken, Refused}
 use Rattle.rst_bytes.specs.Escaped.{isEscapable, isStop, taking, escapedOf}
 use Rattle.rst_bytes.specs.Appending.{free}
 use Rattle.rst_bytes.proofs.Lists.{drop-next, drop-two, drop-last, drop-end}
-use Rattle.rst_bytes.proofs.TestLaws.{by-test, by-test₂, either-cases}
+use Rattle.rst_bytes.proofs.TestLaws.{by-test, by-test₂, or-cases}
 
 -- a backslash refuses, if it is the last byte
 alone : (p q n b : ℕ) → eqb b 0x5C ≡ true → taking p q false n (b ∷ []) ≡ Refused
@@ -103,7 +103,7 @@ module _ (p q : ℕ) where
 -- a stop byte is p or q
 pub stop-is : (p q b : ℕ) → isStop p q b ≡ true → (b ≡ p) ⊎ (b ≡ q)
 unfolding isStop
-stop-is p q b h = ⊎-elim (λ e. inl (eqb-true b p e)) (λ e. inr (eqb-true b q e)) (either-cases (eqb b p) (eqb b q) h)
+stop-is p q b h = ⊎-elim (λ e. inl (eqb-true b p e)) (λ e. inr (eqb-true b q e)) (or-cases (eqb b p) (eqb b q) h)
 
 -- m bytes taken of l, counted from n, are at most all, and end before a stop byte if they are not all
 record Ends (p q n : ℕ) (l : List ℕ) (m : ℕ) : Type 0 where
@@ -200,10 +200,10 @@ taking-free p q (b ∷ l) false n k e h =
 
 -- A text behind which LF and t are put.
 module _ (p q : ℕ) (t : List ℕ) where
-  -- of m bytes taken of a text that ends at k, and the answer x for the longer text: x is the same if they end before k, and
-  -- goes on from there if not
+  -- of m bytes taken of a text that ends at k, and the answer x for the longer text: x is the same if they end before k, and if
+  -- not, and LF is no stop byte, goes on from there
   abbrev JoinedOf : ℕ → Part → Part → Type 0
-  JoinedOf k (Taken m) x = (m < k → x ≡ Taken m) × (m ≡ k → x ≡ taking p q false m (10 ∷ t))
+  JoinedOf k (Taken m) x = (m < k → x ≡ Taken m) × (m ≡ k → isStop p q 10 ≡ false → x ≡ taking p q false m (10 ∷ t))
   JoinedOf k Refused x = x ≡ Refused
 
   -- `taking` goes on so
@@ -211,24 +211,24 @@ module _ (p q : ℕ) (t : List ℕ) where
   unfolding taking isEscapable
   taking-joined true n k [] h = refl
   taking-joined true n k (b ∷ s) h = by-test₂ (JoinedOf k) (isEscapable b) _ _ _ _ (λ e. taking-joined false (n + 1) k s (omega arith)) (λ e. refl)
-  taking-joined false n k [] h = (λ l. absurd (omega arith), λ e. refl)
+  taking-joined false n k [] h = (λ l. absurd (omega arith), λ e f. refl)
   taking-joined false n k (b ∷ s) h =
       by-test₂ (JoinedOf k) (eqb b 0x5C) _ _ _ _
       (λ e. taking-joined true (n + 1) k s (omega arith))
       (λ e. by-test₂ (JoinedOf k) (isStop p q b) _ _ _ _
-      (λ f. (λ l. refl, λ g. absurd (omega arith)))
+      (λ f. (λ l. refl, λ g z. absurd (omega arith)))
       (λ f. taking-joined false (n + 1) k s (omega arith)))
 
-  -- and so does `escapedOf`, if LF is no stop byte
-  escaped-joined : isStop p q 10 ≡ false → (s : List ℕ) → JoinedOf (length s) (escapedOf p q s) (escapedOf p q (s ++ 10 ∷ t))
+  -- and so does `escapedOf`
+  escaped-joined : (s : List ℕ) → JoinedOf (length s) (escapedOf p q s) (escapedOf p q (s ++ 10 ∷ t))
   unfolding escapedOf
-  escaped-joined h [] = (λ l. absurd (omega arith), λ e. first-other p q (10 ∷ t) (omega arith) h)
-  escaped-joined h (b ∷ s) = by-test₂ (JoinedOf (suc (length s))) (isStop p q b) _ _ _ _ (λ e. refl) (λ e. taking-joined false 0 _ (b ∷ s) (omega arith))
+  escaped-joined [] = (λ l. absurd (omega arith), λ e f. first-other p q (10 ∷ t) (omega arith) f)
+  escaped-joined (b ∷ s) = by-test₂ (JoinedOf (suc (length s))) (isStop p q b) _ _ _ _ (λ e. refl) (λ e. taking-joined false 0 _ (b ∷ s) (omega arith))
 
--- What `escapedOf` takes of that text, if LF is no stop byte.
-module _ (p q : ℕ) (h : isStop p q 10 ≡ false) (s t : List ℕ) where
+-- What `escapedOf` takes of that text.
+module _ (p q : ℕ) (s t : List ℕ) where
   joined : (r : Part) → escapedOf p q s ≡ r → JoinedOf p q t (length s) r (escapedOf p q (s ++ 10 ∷ t))
-  joined r e = subst (λ (x : Part). JoinedOf p q t (length s) x (escapedOf p q (s ++ 10 ∷ t))) e (escaped-joined p q t h s)
+  joined r e = subst (λ (x : Part). JoinedOf p q t (length s) x (escapedOf p q (s ++ 10 ∷ t))) e (escaped-joined p q t s)
 
   -- what is refused stays refused
   pub refused-lf : escapedOf p q s ≡ Refused → escapedOf p q (s ++ 10 ∷ t) ≡ Refused
@@ -238,8 +238,8 @@ module _ (p q : ℕ) (h : isStop p q 10 ≡ false) (s t : List ℕ) where
   pub taken-lf : (n : ℕ) → escapedOf p q s ≡ Taken n → n < length s → escapedOf p q (s ++ 10 ∷ t) ≡ Taken n
   taken-lf n e = joined (Taken n) e .0
 
-  -- what is all of s becomes all of the longer text, or is refused, if t has neither p nor q
-  pub open-lf : free p q t ≡ true → escapedOf p q s ≡ Taken (length s) → (escapedOf p q (s ++ 10 ∷ t) ≡ Refused) ⊎ (escapedOf p q (s ++ 10 ∷ t) ≡ Taken (length (s ++ 10 ∷ t)))
-  open-lf f e =
-      rw (joined (Taken (length s)) e .1 refl)
+  -- what is all of s becomes all of the longer text, or is refused, if LF and t have neither p nor q
+  pub open-lf : isStop p q 10 ≡ false → free p q t ≡ true → escapedOf p q s ≡ Taken (length s) → (escapedOf p q (s ++ 10 ∷ t) ≡ Refused) ⊎ (escapedOf p q (s ++ 10 ∷ t) ≡ Taken (length (s ++ 10 ∷ t)))
+  open-lf h f e =
+      rw (joined (Taken (length s)) e .1 refl h)
       (taking-free p q (10 ∷ t) false (length s) (length (s ++ 10 ∷ t)) (sym (length-append s (10 ∷ t))) (free-lf p q t h f))

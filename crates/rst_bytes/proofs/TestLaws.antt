@@ -1,12 +1,11 @@
--- The laws of tests: what a test picks, `either` and `both` by cases, and two numbers by their test.
+-- The laws of tests: what a test picks, one of two tests, and two numbers by their test.
 -- Assumes nothing.
-use mathlib.Core.Path.{_≡_, refl, sym, subst}
+use mathlib.Core.Path.{_≡_, refl}
 use mathlib.Core.Logic.{_⊎_, inl, inr}
-use mathlib.Core.Bool.{Bool, true, false}
+use mathlib.Core.Bool.{Bool, true, false, _||_}
 use Prim.Native.Nat.{ℕ, _<_, _≤_}
-use lib.Dec.{T, ltb}
+use lib.Dec.{ltb}
 use borrow.Author.Tests.{ltb-true, ltb-false}
-use Rattle.rst_bytes.specs.Tests.{either, both}
 
 module _ {A : Type 0} where
   -- of one test, what holds of either answer holds of its answer
@@ -19,25 +18,10 @@ module _ {A : Type 0} where
   by-test₂ P true x y x′ y′ f g = f refl
   by-test₂ P false x y x′ y′ f g = g refl
 
-pub either-right : (b : Bool) → either b false ≡ b
-either-right true = refl
-either-right false = refl
-
-pub either-true : (b : Bool) → either b true ≡ true
-either-true true = refl
-either-true false = refl
-
-pub either-cases : (a b : Bool) → either a b ≡ true → (a ≡ true) ⊎ (b ≡ true)
-either-cases true b e = inl refl
-either-cases false b e = inr e
-
-pub both-false : (b : Bool) → both b false ≡ false
-both-false true = refl
-both-false false = refl
-
-pub both-parts : (a b : Bool) → both a b ≡ true → (a ≡ true) × (b ≡ true)
-both-parts true b e = (refl, e)
-both-parts false b e = absurd (subst T (sym e) tt)
+-- one of two tests holds
+pub or-cases : (a b : Bool) → (a || b) ≡ true → (a ≡ true) ⊎ (b ≡ true)
+or-cases true b e = inl refl
+or-cases false b e = inr e
 
 -- of two numbers the first is below the second, or not
 pub lt-or-le : (a b : ℕ) → (a < b) ⊎ (b ≤ a)

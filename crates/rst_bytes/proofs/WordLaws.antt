@@ -7,22 +7,20 @@ use native.Mathlib.Omega.{arith}
 use mathlib.Core.Path.{_≡_, refl}
 use mathlib.Core.Logic.{_⊎_, inl, ⊎-elim}
 use mathlib.Core.List.{List, [], _∷_, _++_}
-use mathlib.Core.Bool.{Bool, true, false}
+use mathlib.Core.Bool.{Bool, true, false, _&&_, or-true, or-false, and-false}
 use lib.Dec.{T, leb, ltb, leb→le, ltb→lt}
 use lib.ListN.{length, getD}
 use borrow.Author.Tests.{le-leb, lt-leb, ne-eqb}
-use Rattle.rst_bytes.specs.Tests.{both}
 use Rattle.rst_bytes.specs.Word.{inRanges, apart, wordRanges, isAsciiWord, isWord, wordOf}
-use Rattle.rst_bytes.proofs.TestLaws.{either-true, either-right, both-false}
 use Rattle.rst_bytes.proofs.DomainLaws.{run-within, run-lf}
 
-both-left : (a b : Bool) → T (both a b) → T a
-both-left true b t = tt
-both-left false b t = t
+and-left : (a b : Bool) → T (a && b) → T a
+and-left true b t = tt
+and-left false b t = t
 
-both-right : (a b : Bool) → T (both a b) → T b
-both-right true b t = t
-both-right false b t = absurd t
+and-right : (a b : Bool) → T (a && b) → T b
+and-right true b t = t
+and-right false b t = absurd t
 
 -- each element is at most the next
 next-le : (t : List ℕ) → T (apart t) → (i : ℕ) → suc i < length t → getD t i 0 ≤ getD t (suc i) 0
@@ -31,10 +29,10 @@ next-le [] u i h = absurd (not-suc-le-zero h)
 next-le (a ∷ []) u i h = absurd (not-suc-le-zero (le-of-suc-le-suc h))
 next-le (a ∷ b ∷ []) u zero h = leb→le a b u
 next-le (a ∷ b ∷ []) u (suc i) h = absurd (not-suc-le-zero (le-of-suc-le-suc (le-of-suc-le-suc h)))
-next-le (a ∷ b ∷ c ∷ rest) u zero h = leb→le a b (both-left (leb a b) _ u)
-next-le (a ∷ b ∷ c ∷ rest) u (suc zero) h = le-of-lt (ltb→lt b c (both-left (ltb b c) _ (both-right (leb a b) _ u)))
+next-le (a ∷ b ∷ c ∷ rest) u zero h = leb→le a b (and-left (leb a b) _ u)
+next-le (a ∷ b ∷ c ∷ rest) u (suc zero) h = le-of-lt (ltb→lt b c (and-left (ltb b c) _ (and-right (leb a b) _ u)))
 next-le (a ∷ b ∷ c ∷ rest) u (suc (suc i)) h =
-    next-le (c ∷ rest) (both-right (ltb b c) _ (both-right (leb a b) _ u)) i (le-of-suc-le-suc (le-of-suc-le-suc h))
+    next-le (c ∷ rest) (and-right (ltb b c) _ (and-right (leb a b) _ u)) i (le-of-suc-le-suc (le-of-suc-le-suc h))
 
 climb : (t : List ℕ) → T (apart t) → (i d : ℕ) → i + d < length t → getD t i 0 ≤ getD t (i + d) 0
 climb t u i zero h = rw add-zero (le-refl (getD t i 0))
@@ -64,7 +62,7 @@ hit′ c [] k h l u = absurd (not-suc-le-zero h)
 hit′ c (a ∷ []) k h l u = absurd (not-suc-le-zero (le-of-suc-le-suc h))
 hit′ c (a ∷ b ∷ rest) zero h l u = simp (le-leb a c l, le-leb c b u)
 hit′ c (a ∷ b ∷ rest) (suc k) h l u =
-    simp (hit′ c rest k (le-of-suc-le-suc (le-of-suc-le-suc h)) l u, either-true)
+    simp (hit′ c rest k (le-of-suc-le-suc (le-of-suc-le-suc h)) l u, or-true)
 
 miss′ : (c : ℕ) (t : List ℕ) → ((k : ℕ) → suc (double k) < length t → (c < getD t (double k) 0) ⊎ (getD t (suc (double k)) 0 < c)) → inRanges c t ≡ false
 unfolding double inRanges
@@ -72,7 +70,7 @@ miss′ c [] f = refl
 miss′ c (a ∷ []) f = refl
 miss′ c (a ∷ b ∷ rest) f =
     simp (miss′ c rest (λ k h. f (suc k) (suc-le-suc (suc-le-suc h))))
-    (⊎-elim (λ l. simp (lt-leb a c l)) (λ l. simp (lt-leb c b l, both-false)) (f zero (suc-le-suc (suc-le-suc zero-le))))
+    (⊎-elim (λ l. simp (lt-leb a c l)) (λ l. simp (lt-leb c b l, and-false)) (f zero (suc-le-suc (suc-le-suc zero-le))))
 
 -- c is in the kth range
 pub hit : (c : ℕ) (t : List ℕ) (k : ℕ) → 2 * k + 1 < length t → getD t (2 * k) 0 ≤ c → c ≤ getD t (2 * k + 1) 0 → inRanges c t ≡ true
@@ -95,11 +93,11 @@ below t u c h = miss c t (λ k l. inl (lt-of-lt-of-le h (rises t u 0 (2 * k) (om
 -- below 80 only the ASCII part counts, and from 80 on only the ranges
 pub word-low : (c : ℕ) → c < 0x80 → isWord c ≡ isAsciiWord c
 unfolding isWord apart wordRanges
-word-low c h = simp (below wordRanges tt c (omega arith), either-right)
+word-low c h = simp (below wordRanges tt c (omega arith), or-false)
 
 pub word-high : (c : ℕ) → 0x80 ≤ c → isWord c ≡ inRanges c wordRanges
 unfolding isWord isAsciiWord
-word-high c h = simp (lt-leb c 0x39 (omega arith), lt-leb c 0x5A (omega arith), lt-leb c 0x7A (omega arith), ne-eqb c 0x2D (λ e. omega arith), ne-eqb c 0x5F (λ e. omega arith), both-false)
+word-high c h = simp (lt-leb c 0x39 (omega arith), lt-leb c 0x5A (omega arith), lt-leb c 0x7A (omega arith), ne-eqb c 0x2D (λ e. omega arith), ne-eqb c 0x5F (λ e. omega arith), and-false)
 
 -- a word is within what there is
 pub word-within : (s : List ℕ) → wordOf s ≤ length s

@@ -3,10 +3,10 @@
 -- Assumes nothing.
 use Prim.Native.Nat.{ℕ, zero, suc, _+_, _-_, _*_}
 use mathlib.Core.List.{List, [], _∷_}
-use mathlib.Core.Bool.{Bool, true, false}
+use mathlib.Core.Bool.{Bool, true, false, _&&_, _||_}
 use lib.Dec.{ltb, eqb}
 use lib.ListN.{length}
-use Rattle.rst_bytes.specs.Tests.{either, both, between}
+use Rattle.rst_bytes.specs.Tests.{between}
 use Rattle.rst_bytes.specs.declared.Character.{Character}
 use Rattle.rst_bytes.specs.declared.Character.the-variants.{Starts, Nothing}
 use Rattle.rst_bytes.specs.declared.Outside.{Outside}
@@ -15,7 +15,7 @@ use Rattle.rst_bytes.specs.declared.Outside.the-variants.{At, Nowhere}
 -- "C2 to C8 followed by 80 to BF; C9 followed by 80 to 8F"
 unfoldable pub isPair : ℕ → ℕ → Bool
 isPair b c =
-    either (both (between 0xC2 0xC8 b) (between 0x80 0xBF c)) (both (eqb b 0xC9) (between 0x80 0x8F c))
+    (between 0xC2 0xC8 b && between 0x80 0xBF c) || (eqb b 0xC9 && between 0x80 0x8F c)
 
 -- the code point of two bytes
 abbrev pub pointOf : ℕ → ℕ → ℕ

@@ -4,9 +4,9 @@
 -- Assumes nothing.
 use Prim.Native.Nat.{ℕ, _+_}
 use mathlib.Core.List.{List, [], _∷_}
-use mathlib.Core.Bool.{Bool, true, false}
+use mathlib.Core.Bool.{Bool, true, false, _||_}
 use lib.Dec.{eqb}
-use Rattle.rst_bytes.specs.Tests.{either, oneOf}
+use Rattle.rst_bytes.specs.Tests.{oneOf}
 use Rattle.rst_bytes.specs.declared.Part.{Part}
 use Rattle.rst_bytes.specs.declared.Part.the-variants.{Taken, Refused}
 
@@ -16,7 +16,7 @@ isEscapable b = oneOf b (0x20 ∷ 0x60 ∷ 0x3A ∷ 0x3C ∷ 0x3E ∷ 0x5F ∷ 0
 
 -- S, but for the backslash: the two bytes p and q
 unfoldable pub isStop : ℕ → ℕ → ℕ → Bool
-isStop p q b = either (eqb b p) (eqb b q)
+isStop p q b = eqb b p || eqb b q
 
 -- n bytes are taken, the last of which is a backslash that takes the next byte along, or is not
 unfoldable pub taking : ℕ → ℕ → Bool → ℕ → List ℕ → Part

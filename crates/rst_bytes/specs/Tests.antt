@@ -1,23 +1,15 @@
--- Tests on numbers, put together.
+-- Tests on numbers.
 -- Assumes nothing.
 use Prim.Native.Nat.{ℕ}
 use mathlib.Core.List.{List, [], _∷_}
-use mathlib.Core.Bool.{Bool, true, false}
+use mathlib.Core.Bool.{Bool, false, _&&_, _||_}
 use lib.Dec.{leb, eqb}
-
-abbrev pub either : Bool → Bool → Bool
-either true b = true
-either false b = b
-
-abbrev pub both : Bool → Bool → Bool
-both true b = b
-both false b = false
 
 -- n is one of a to z
 abbrev pub between : ℕ → ℕ → ℕ → Bool
-between a z n = both (leb a n) (leb n z)
+between a z n = leb a n && leb n z
 
 -- n is one of the list
 abbrev pub oneOf : ℕ → List ℕ → Bool
 oneOf n [] = false
-oneOf n (x ∷ xs) = either (eqb n x) (oneOf n xs)
+oneOf n (x ∷ xs) = eqb n x || oneOf n xs

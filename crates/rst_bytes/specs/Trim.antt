@@ -2,16 +2,16 @@
 -- Assumes nothing.
 use Prim.Native.Nat.{ℕ, suc}
 use mathlib.Core.List.{List, [], _∷_}
-use mathlib.Core.Bool.{Bool, true, false}
+use mathlib.Core.Bool.{Bool, true, false, _||_}
 use lib.Dec.{eqb}
 use lib.ListN.{length}
-use Rattle.rst_bytes.specs.Tests.{either, between}
+use Rattle.rst_bytes.specs.Tests.{between}
 use Rattle.rst_bytes.specs.Domain.{charOf, run}
 use Rattle.rst_bytes.specs.declared.Character.the-variants.{Starts, Nothing}
 
 -- "U+0009–000D, 0020, 0085, 00A0"
 unfoldable pub isBlank : ℕ → Bool
-isBlank c = either (between 9 0xD c) (either (eqb c 0x20) (either (eqb c 0x85) (eqb c 0xA0)))
+isBlank c = between 9 0xD c || eqb c 0x20 || eqb c 0x85 || eqb c 0xA0
 
 -- the length of the blank character at the front, 0 if there is none
 unfoldable pub blankOf : List ℕ → ℕ

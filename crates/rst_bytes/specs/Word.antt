@@ -3,16 +3,15 @@
 -- Assumes nothing.
 use Prim.Native.Nat.{ℕ}
 use mathlib.Core.List.{List, [], _∷_}
-use mathlib.Core.Bool.{Bool, true, false}
+use mathlib.Core.Bool.{Bool, true, false, _&&_, _||_}
 use lib.Dec.{leb, ltb, eqb}
-use Rattle.rst_bytes.specs.Tests.{either, both, between}
+use Rattle.rst_bytes.specs.Tests.{between}
 use Rattle.rst_bytes.specs.Domain.{run}
 
 -- "an ASCII letter or digit, -, _"
 unfoldable pub isAsciiWord : ℕ → Bool
 isAsciiWord c =
-    either (between 0x30 0x39 c)
-    (either (between 0x41 0x5A c) (either (between 0x61 0x7A c) (either (eqb c 0x2D) (eqb c 0x5F))))
+    between 0x30 0x39 c || between 0x41 0x5A c || between 0x61 0x7A c || eqb c 0x2D || eqb c 0x5F
 
 -- the first and the last code point of each range, one after the other
 unfoldable pub wordRanges : List ℕ
@@ -23,17 +22,17 @@ wordRanges =
 unfoldable pub inRanges : ℕ → List ℕ → Bool
 inRanges c [] = false
 inRanges c (a ∷ []) = false
-inRanges c (a ∷ z ∷ rest) = either (between a z c) (inRanges c rest)
+inRanges c (a ∷ z ∷ rest) = between a z c || inRanges c rest
 
 -- each range is in order, and ends below the next
 unfoldable pub apart : List ℕ → Bool
 apart [] = true
 apart (a ∷ []) = true
 apart (a ∷ z ∷ []) = leb a z
-apart (a ∷ z ∷ b ∷ rest) = both (leb a z) (both (ltb z b) (apart (b ∷ rest)))
+apart (a ∷ z ∷ b ∷ rest) = leb a z && (ltb z b && apart (b ∷ rest))
 
 unfoldable pub isWord : ℕ → Bool
-isWord c = either (isAsciiWord c) (inRanges c wordRanges)
+isWord c = isAsciiWord c || inRanges c wordRanges
 
 -- the length in bytes of the maximal run of word characters at the front
 unfoldable pub wordOf : List ℕ → ℕ

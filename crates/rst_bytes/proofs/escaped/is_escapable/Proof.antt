@@ -1,8 +1,8 @@
 -- `escaped::is_escapable` meets its contract: each way out compares with one byte of ESCAPABLE, and the bytes before it were others.
 -- Assumes nothing.
+use mathlib.Core.Bool.{or-false}
 use borrow.Author.Tests.{eq-eqb, ne-eqb}
 use Rattle.rst_bytes.specs.Escaped.{isEscapable}
-use Rattle.rst_bytes.proofs.TestLaws.{either-right}
 use Rattle.rst_bytes.proofs.escaped.is_escapable.Statement.{statement}
 use Rattle.rst_bytes.proofs.escaped.is_escapable.Tie as tie
 
@@ -32,7 +32,7 @@ returns-6 c = simp (ne-eqb _ _ (c .before .before .before .before .before .if1 .
 
 returns-7 : tie.Need-returns-7
 unfolding isEscapable
-returns-7 c = simp (ne-eqb _ _ (c .before .before .before .before .before .if1 .left), ne-eqb _ _ (c .before .before .before .before .if2 .left), ne-eqb _ _ (c .before .before .before .if3 .left), ne-eqb _ _ (c .before .before .if4 .left), ne-eqb _ _ (c .before .if5 .left), ne-eqb _ _ (c .if6 .left), either-right)
+returns-7 c = simp (ne-eqb _ _ (c .before .before .before .before .before .if1 .left), ne-eqb _ _ (c .before .before .before .before .if2 .left), ne-eqb _ _ (c .before .before .before .if3 .left), ne-eqb _ _ (c .before .before .if4 .left), ne-eqb _ _ (c .before .if5 .left), ne-eqb _ _ (c .if6 .left), or-false)
 
 pub is-escapable-spec : {M : Type 1} → statement M
 is-escapable-spec =
