@@ -1,6 +1,8 @@
 // The pieces of the lower layers by number, and their answers in numbers: what recorded answers are replayed on, and what is
 // compared with the Rust's own pieces. For the tests alone, no part of what is delivered. A function only hands on what the
 // piece answers.
+pub mod parser;
+
 use rst_bytes::Character;
 use rst_bytes::Outside;
 use rst_bytes::Part;
@@ -87,6 +89,18 @@ fn escaped(s: &[u8], set: usize) -> Answer {
     part(rst_bytes::escaped::escaped(s, b':', b':'))
 }
 
+// `tag`: whether the bytes behind the place begin with those before it.
+fn tag(s: &[u8], place: usize) -> Answer {
+    if s.len() < place {
+        return none();
+    }
+    if rst_bytes::tag::tag(&s[place..], &s[0..place]) {
+        taken(place)
+    } else {
+        none()
+    }
+}
+
 fn line_piece(kind: usize, s: &[u8]) -> Answer {
     if kind == 7 {
         return part(rst_bytes::line::newline(s));
@@ -109,7 +123,7 @@ fn line_piece(kind: usize, s: &[u8]) -> Answer {
     none()
 }
 
-// What the piece of this number answers; the parameter is a place for 2 and a stop set for 6.
+// What the piece of this number answers; the parameter is a place for 2 and 13, and a stop set for 6.
 #[no_mangle]
 pub extern "C" fn rst_piece(kind: usize, parameter: usize, s: &[u8]) -> Answer {
     if kind == 1 {
@@ -129,6 +143,9 @@ pub extern "C" fn rst_piece(kind: usize, parameter: usize, s: &[u8]) -> Answer {
     }
     if kind == 6 {
         return escaped(s, parameter);
+    }
+    if kind == 13 {
+        return tag(s, parameter);
     }
     line_piece(kind, s)
 }

@@ -2,12 +2,14 @@
 -- Assumes nothing.
 use mathlib.Core.Path.{_≡_, refl}
 use mathlib.Core.List.{[], _∷_, _++_, map}
+use mathlib.Core.Bool.{true, false}
 use lib.ListN.{replicate}
 use Rattle.rst_bytes.specs.Domain.{isPair, charOf, run, outsideOf}
 use Rattle.rst_bytes.specs.Word.{isAsciiWord, isWord, inRanges, wordRanges, wordOf}
 use Rattle.rst_bytes.specs.Trim.{isBlank, blanks, trimOf}
 use Rattle.rst_bytes.specs.Escaped.{isEscapable, isStop, taking, escapedOf}
 use Rattle.rst_bytes.specs.Line.{newlineOf, lineEndingOf, lineFrom, notLineEndingOf, isSpace, isMultispace, bytesFrom, space0Of, space1Of, multispace0Of}
+use Rattle.rst_bytes.specs.Tag.{startsWith}
 use Rattle.rst_bytes.specs.declared.Part.the-variants.{Taken, Refused}
 use Rattle.rst_bytes.specs.declared.Character.the-variants.{Starts, Nothing}
 use Rattle.rst_bytes.specs.declared.Outside.the-variants.{At, Nowhere}
@@ -121,3 +123,11 @@ some-spaces = refl
 all-spaces : map multispace0Of ((0x20 ∷ 0x09 ∷ 0x0D ∷ 0x0A ∷ 0x61 ∷ []) ∷ (0x61 ∷ []) ∷ []) ≡ 4 ∷ 0 ∷ []
 unfolding bytesFrom isMultispace
 all-spaces = refl
+
+-- a text with two bytes at its front, one of them, another one, none; and the empty tag
+tags :
+    map (startsWith (0x2E ∷ 0x20 ∷ [])) ((0x2E ∷ 0x20 ∷ 0x61 ∷ []) ∷ (0x2E ∷ []) ∷ (0x2E ∷ 0x2E ∷ []) ∷ [] ∷ [])
+    ++ map (startsWith []) ([] ∷ (0x61 ∷ []) ∷ [])
+    ≡ true ∷ false ∷ false ∷ false ∷ true ∷ true ∷ []
+unfolding startsWith
+tags = refl

@@ -169,7 +169,7 @@ taken-pos p q b s zero e = absurd (refused-taken (sym (first-stop p q (b ∷ s) 
 taken-pos p q b s (suc n) e = omega arith
 
 -- the first byte of a text without p and q, and the rest
-free-next : (p q b : ℕ) (l : List ℕ) → free p q (b ∷ l) ≡ true → (isStop p q b ≡ false) × (free p q l ≡ true)
+pub free-next : (p q b : ℕ) (l : List ℕ) → free p q (b ∷ l) ≡ true → (isStop p q b ≡ false) × (free p q l ≡ true)
 unfolding free
 free-next p q b l h = go (isStop p q b) refl h
   where

@@ -6,4 +6,5 @@ pub mod WordLaws
 pub mod TrimLaws
 pub mod EscapedLaws
 pub mod LineLaws
+pub mod TagLaws
 mod Cases

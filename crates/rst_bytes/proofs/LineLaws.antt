@@ -9,12 +9,13 @@ use mathlib.Core.Logic.{_⊎_, inl, inr}
 use native.Mathlib.Nat.{not-suc-le-zero, suc-ne-zero, sub-self}
 use native.Mathlib.Omega.{arith}
 use lib.Dec.{eqb}
-use lib.ListN.{length, getD, drop}
+use lib.ListN.{length, getD, drop, take}
 use borrow.Author.Tests.{eq-eqb, ne-eqb, eqb-false}
 use Rattle.rst_bytes.specs.declared.Part.{Part}
 use Rattle.rst_bytes.specs.declared.Part.the-variants.{Taken, Refused}
 use Rattle.rst_bytes.specs.Line.{startsLf, newlineOf, lineEndingOf, lineFrom, notLineEndingOf, isSpace, isMultispace, bytesFrom, space0Of, space1Of, multispace0Of}
-use Rattle.rst_bytes.specs.Appending.{endsInCr, Body}
+use Rattle.rst_bytes.specs.Escaped.{isStop}
+use Rattle.rst_bytes.specs.Appending.{free, endsInCr, startsSpace, Body}
 use Rattle.rst_bytes.proofs.Lists.{drop-next, drop-two, drop-last, drop-end}
 use Rattle.rst_bytes.proofs.TestLaws.{by-test, by-test₂}
 
@@ -328,3 +329,51 @@ line-append t (b ∷ c ∷ s) n h =
 -- the rest of the line is the same, if LF makes no CR a line ending
 pub not-line-ending-lf : (s t : List ℕ) → Body s → notLineEndingOf (s ++ 10 ∷ t) ≡ notLineEndingOf s
 not-line-ending-lf s t h = line-append t s 0 h
+
+-- The spaces and tabs at the front of a text.
+
+-- bytes are counted on from n
+bytes-count : (f : ℕ → Bool) (s : List ℕ) (n : ℕ) → bytesFrom f n s ≡ n + bytesFrom f 0 s
+unfolding bytesFrom
+bytes-count f [] n = omega arith
+bytes-count f (b ∷ s) n =
+    by-test₂ (λ x y. x ≡ n + y) (f b) _ _ _ _
+    (λ e. omega (arith, bytes-count f s (n + 1), bytes-count f s (0 + 1)))
+    (λ e. omega arith)
+
+-- one more than behind a space or a tab
+space0-next : (b : ℕ) (s : List ℕ) → isSpace b ≡ true → space0Of (b ∷ s) ≡ suc (space0Of s)
+unfolding bytesFrom
+space0-next b s e = rw (e, bytesFrom) (omega (arith, bytes-count isSpace s (0 + 1)))
+
+-- none before another byte
+space0-none : (b : ℕ) (s : List ℕ) → isSpace b ≡ false → space0Of (b ∷ s) ≡ 0
+unfolding bytesFrom
+space0-none b s e = rw (e, bytesFrom) refl
+
+-- a space or a tab is no LF
+space-no-lf : (b : ℕ) → isSpace b ≡ true → isStop 10 10 b ≡ false
+unfolding isSpace isStop
+space-no-lf b h =
+    let n : eqb b 10 ≡ false = ne-eqb b 10 (λ e. true≢false (sym h ∙ ap isSpace e)) in
+    simp n
+
+-- they add no LF to a text without LF
+pub space0-free : (s u : List ℕ) → free 10 10 u ≡ true → free 10 10 (take (space0Of s) s ++ u) ≡ true
+unfolding free bytesFrom
+space0-free [] u h = h
+space0-free (b ∷ s) u h = go (isSpace b) refl (space0-free s u h)
+  where
+    go : (t : Bool) → isSpace b ≡ t → free 10 10 (take (space0Of s) s ++ u) ≡ true → free 10 10 (take (space0Of (b ∷ s)) (b ∷ s) ++ u) ≡ true
+    go true e ih = rw (space0-next b s e) (rw (space-no-lf b e, free) ih)
+    go false e ih = rw (space0-none b s e) h
+
+-- a text that begins with a space or a tab does so with them before it
+pub space0-starts : (s u : List ℕ) → startsSpace u ≡ true → startsSpace (take (space0Of s) s ++ u) ≡ true
+unfolding startsSpace bytesFrom
+space0-starts [] u h = h
+space0-starts (b ∷ s) u h = go (isSpace b) refl
+  where
+    go : (t : Bool) → isSpace b ≡ t → startsSpace (take (space0Of (b ∷ s)) (b ∷ s) ++ u) ≡ true
+    go true e = rw (space0-next b s e) e
+    go false e = rw (space0-none b s e) h

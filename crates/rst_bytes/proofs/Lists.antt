@@ -5,8 +5,8 @@ use mathlib.Core.Path.{_≡_, ap, _∙_}
 use mathlib.Core.List.{List, [], _∷_}
 use native.Mathlib.Numerals.{add-one}
 use native.Mathlib.Omega.{arith}
-use lib.ListN.{length, getD, drop, drop-of-length-le}
-use lib.Seq.{drop-cons}
+use lib.ListN.{length, getD, drop, take, drop-of-length-le, length-drop}
+use lib.Seq.{drop-cons, take-all}
 
 module _ (s : List ℕ) (i : ℕ) where
   pub drop-next : i < length s → drop i s ≡ getD s i 0 ∷ drop (i + 1) s
@@ -24,3 +24,7 @@ module _ (s : List ℕ) (i : ℕ) where
   -- the last element
   pub drop-last : i < length s → length s ≤ i + 1 → drop i s ≡ getD s i 0 ∷ []
   drop-last h e = drop-next h ∙ ap (λ (l : List ℕ). getD s i 0 ∷ l) (drop-of-length-le s e)
+
+-- the part from a position on, as `&s[a..]` has it
+pub part-from : (s : List ℕ) (a : ℕ) → take (length s - a) (drop a s) ≡ drop a s
+part-from s a = take-all (length s - a) (drop a s) (omega (arith, length-drop a s))

@@ -16,22 +16,25 @@
 --             space1Of         line::space1             the same, at least one
 --             isMultispace     line::is_multispace      space, tab, CR, LF
 --             multispace0Of    line::multispace0        a run of these
+--   Tag       startsWith       tag::tag                 given bytes at the front
 --   Appending Body, Tail, free                          what the laws on appended text speak of
 --
 -- Laws, proved in the file of proofs/ that is named, for the layers above:
 --   within the input   DomainLaws char-within, char-at-within, run-within, outside-within; WordLaws word-within; TrimLaws
 --                      trim-within; EscapedLaws taken-le; LineLaws newline-le, line-ending-le, not-line-ending-le, space0-le,
---                      space1-le, multispace0-le
+--                      space1-le, multispace0-le; TagLaws starts-le
 --   progress           DomainLaws char-within; EscapedLaws taken-pos; LineLaws newline-pos, line-ending-pos, space1-pos
 --   what follows       DomainLaws char-inside, inside-at: no character starts inside another; EscapedLaws taken-stop: a part
 --                      ends before a stop byte, stop-is: which is one of two; LineLaws not-line-ending-end: a line ends before
---                      a line ending
+--                      a line ending, space0-starts, space0-free: what spaces and tabs at the front begin with and lack; TagLaws
+--                      starts-append, starts-space
 --   appending          LineLaws body-drop; on s ++ 10 ∷ t: DomainLaws char-lf, outside-lf, run-lf; WordLaws word-lf; EscapedLaws refused-lf,
---                      taken-lf, open-lf; LineLaws newline-lf, line-ending-lf, not-line-ending-lf, space0-lf, space1-lf
+--                      taken-lf, open-lf; LineLaws newline-lf, line-ending-lf, not-line-ending-lf, space0-lf, space1-lf; TagLaws starts-lf
 pub mod Tests
 pub mod Domain
 pub mod Word
 pub mod Trim
 pub mod Escaped
 pub mod Line
+pub mod Tag
 pub mod Appending

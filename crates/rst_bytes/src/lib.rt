@@ -6,6 +6,7 @@
 pub mod domain;
 pub mod escaped;
 pub mod line;
+pub mod tag;
 pub mod trim;
 pub mod word;
 

@@ -1,22 +1,48 @@
 // Replays the recorded answers of the Rust on the proved functions, and writes how many agree. data/README.md says what is
 // recorded and how it was made.
 mod number;
+mod parsers;
 mod replay;
 
-fn main() {
-    let name = b"pieces.bin";
+ghost use Rattle.io.specs.Counts.{Counts};
+
+// Reads a file, as far as the buffer holds it, and says how many bytes that are.
+fn load(name: &[u8], buf: &mut [u8]) -> usize
+    ensures { λ r. ⌜ Counts r (now (buf .exit)) ⌝ }
+{
     let fd = os::open_read(name);
     if fd < 0 {
         os::fail(name);
-        return;
+        return 0;
     }
-    let mut data = [0u8; 262144];
-    let n = io::read_full(fd, &mut data);
+    let n = io::read_full(fd, buf);
     libc::close(fd);
-    let right = replay::replay(&data[..n]);
-    io::write_all(1, b"pieces: ");
-    io::print_decimal(1, number::four(&data, 0) as u64);
+    n
+}
+
+// Writes how many answers of a file are recorded, and how many agree.
+fn say(name: &[u8], recorded: usize, right: usize) {
+    io::write_all(1, name);
+    io::write_all(1, b": ");
+    io::print_decimal(1, recorded as u64);
     io::write_all(1, b" recorded, ");
     io::print_decimal(1, right as u64);
     io::write_all(1, b" agree\n");
+}
+
+fn main() {
+    let mut data = [0u8; 262144];
+    let n = load(b"pieces.bin", &mut data);
+    say(
+        b"pieces",
+        number::four(&data, 0),
+        replay::replay(&data[..n]),
+    );
+    let n = load(b"parsers.bin", &mut data);
+    let mut scratch = [0u8; 4096];
+    say(
+        b"parsers",
+        number::four(&data, 0),
+        parsers::replay(&data[..n], &mut scratch),
+    );
 }

@@ -135,11 +135,26 @@ pub fn document(seed: u64, domain_only: bool) -> Vec<u8> {
     }
     if domain_only {
         doc.truncate(DOCUMENT_MAX);
-        while let Some(place) = first_bad(&doc) {
-            doc.remove(place);
-        }
+        keep_domain(&mut doc);
     }
     doc
+}
+
+/// A damaged copy of a document, still of the domain.
+pub fn damaged(random: &mut Random, doc: &[u8]) -> Vec<u8> {
+    let mut copy = doc.to_vec();
+    for _ in 0..=random.below(3) {
+        damage(random, &mut copy);
+    }
+    keep_domain(&mut copy);
+    copy
+}
+
+/// Removes the bytes that start no character of the domain.
+fn keep_domain(doc: &mut Vec<u8>) {
+    while let Some(place) = first_bad(doc) {
+        doc.remove(place);
+    }
 }
 
 /// A document while it grows.

@@ -114,6 +114,12 @@ pub fn multispace0(s: &[u8]) -> Option<usize> {
     read(s, character::multispace0)
 }
 
+/// `tag`: whether the text behind `place` begins with the text before it.
+pub fn tag(s: &[u8], place: usize) -> Option<usize> {
+    let (front, rest) = text(s).split_at_checked(place)?;
+    read(rest.as_bytes(), bytes::tag(front))
+}
+
 /// A piece's answer: none, or a value, and of a character its code point.
 pub type Answer = Option<(usize, u32)>;
 
@@ -139,6 +145,7 @@ pub fn piece(number: u8, parameter: usize, input: &[u8]) -> Answer {
         10 => space0(input).map(plain),
         11 => space1(input).map(plain),
         12 => multispace0(input).map(plain),
+        13 => tag(input, parameter).map(plain),
         _ => unreachable!("no such piece"),
     }
 }

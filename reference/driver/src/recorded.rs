@@ -56,6 +56,23 @@ pub fn piece_chunks(file: &[u8]) -> Option<Vec<&[u8]>> {
     (reader.left() == 0).then_some(chunks)
 }
 
+/// The chunks of `parsers.bin`, or none where it does not have its layout.
+pub fn parser_chunks(file: &[u8]) -> Option<Vec<&[u8]>> {
+    let mut reader = Reader::new(file);
+    let mut chunks = Vec::new();
+    let mut start = 0;
+    for _ in 0..reader.number(4)? {
+        reader.take(3)?;
+        let input = reader.length(2)?;
+        reader.take(input + 1)?;
+        let strings = reader.length(2)? + reader.length(2)?;
+        reader.take(strings + 2)?;
+        chunks.push(reader.since(start));
+        start = reader.place;
+    }
+    (reader.left() == 0).then_some(chunks)
+}
+
 /// The chunks of `documents.bin`, or none where it does not have its layout.
 pub fn document_chunks(file: &[u8]) -> Option<Vec<&[u8]>> {
     let mut reader = Reader::new(file);

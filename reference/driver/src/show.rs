@@ -3,6 +3,7 @@
 
 use crate::document::{BYTES_MIN, NUMBERS_MIN, Outcome, document, links_in};
 use crate::names::Names;
+use crate::parsers::Parsed;
 use crate::single::{KINDS, Single, take_link_at};
 
 /// The program's output area.
@@ -97,6 +98,19 @@ pub fn each(doc: &[u8]) -> String {
             return shown.join("; ");
         }
         place += (answer.skipped + answer.consumed) as usize;
+    }
+}
+
+/// A parser's answer in one line: consumed, and the two parts or strings.
+pub fn parsed(answer: &Parsed) -> String {
+    match answer {
+        Parsed::Found {
+            first,
+            second,
+            consumed,
+        } => format!("{consumed} {} {}", quoted(first), quoted(second)),
+        Parsed::Refused => "refused".to_string(),
+        Parsed::NoRoom => "no room".to_string(),
     }
 }
 

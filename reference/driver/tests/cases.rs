@@ -3,7 +3,8 @@
 #[path = "../../nom/tests/table/mod.rs"]
 mod table;
 
-use driver::cases::{Case, reading, scope};
+use driver::cases::{Case, parsers, reading, scope};
+use driver::parsers::name;
 use table::Table;
 
 fn run(name: &'static str, cases: Vec<Case>) {
@@ -39,4 +40,15 @@ fn sentences() {
 #[test]
 fn sizes() {
     run("readings, sizes", reading::sizes());
+}
+
+#[test]
+fn of_the_parsers() {
+    let mut table = Table::new("readings, parsers");
+    for case in parsers::parsers() {
+        let shown = String::from_utf8_lossy(&case.input[..case.input.len().min(40)]);
+        let title = format!("{} {:?} {}", case.name, shown, name(case.parser));
+        table.case(&title, case.answer(), case.expected);
+    }
+    table.end();
 }

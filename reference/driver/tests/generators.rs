@@ -1,5 +1,6 @@
 //! The generators: they give the same documents each time, keep to the domain
-//! where asked, and reach every kind of link and every number of the table.
+//! where asked, and reach every kind of link, every number of the table, and
+//! every parser.
 
 #[path = "../../nom/tests/table/mod.rs"]
 mod table;
@@ -7,9 +8,11 @@ mod table;
 use driver::document::{BYTES_MIN, DOCUMENT_MAX, NUMBERS_MIN, document};
 use driver::exhaustive::{BLOCKS, BYTES, INLINE, LINES, Sequences};
 use driver::names::names_of;
+use driver::parsers::{PARSERS, Parsed, name, parser};
 use driver::pieces::first_bad;
+use driver::random::Random;
 use driver::single::take_link_at;
-use driver::{generate, limits};
+use driver::{forms, generate, limits};
 use table::Table;
 
 /// How many links of each kind a document scans to, by kind.
@@ -120,6 +123,84 @@ fn near_the_limits() {
     );
     for number in [0, 2, 4, 5, 6, 7] {
         table.case("every number", numbers[0][number] > 0, true);
+    }
+    table.end();
+}
+
+/// How many inputs of a list each parser accepts, by number.
+fn accepted(inputs: &[Vec<u8>]) -> Vec<usize> {
+    let accepts = |number, s: &Vec<u8>| {
+        let answer = parser(number, s, s.len());
+        matches!(answer, Parsed::Found { .. })
+    };
+    PARSERS
+        .into_iter()
+        .map(|number| inputs.iter().filter(|s| accepts(number, s)).count())
+        .collect()
+}
+
+#[test]
+fn sequences_for_parsers() {
+    let mut table = Table::new("sequences for the parsers");
+    let mut reached = vec![0; PARSERS.len()];
+    for form in &forms::FORMS {
+        let mut random = Random::new(1);
+        let some: Vec<Vec<u8>> = (0..20_000)
+            .map(|_| form.get(random.draw() % form.count()))
+            .collect();
+        let domain = some.iter().all(|s| first_bad(s).is_none());
+        table.case(form.kind, domain, true);
+        let by_number: Vec<Vec<u8>> = (0..3).map(|number| form.get(number)).collect();
+        table.case(form.kind, form.iter().take(3).collect(), by_number);
+        let counts = accepted(&some);
+        for place in form.parsers.iter().map(|number| usize::from(*number) - 1) {
+            reached[place] += counts[place];
+        }
+    }
+    println!("accepted by each parser {reached:?}");
+    for (number, count) in PARSERS.into_iter().zip(reached) {
+        table.case(name(number), count > 100, true);
+    }
+    table.end();
+}
+
+#[test]
+fn limits_for_parsers() {
+    let mut table = Table::new("limits for the parsers");
+    let labels = forms::labels();
+    let longest = forms::longest();
+    for s in labels.iter().chain(&longest) {
+        table.case("in the domain", first_bad(s), None);
+    }
+    let counts = accepted(&labels);
+    println!("accepted by each parser {counts:?}");
+    for (number, count) in PARSERS.into_iter().zip(counts) {
+        table.case(name(number), count > 0, true);
+    }
+    let lengths: Vec<usize> = longest.iter().map(Vec::len).collect();
+    let expected = [16_383, 16_384, 16_385].repeat(lengths.len() / 3);
+    table.case("the longest", lengths, expected);
+    table.end();
+}
+
+#[test]
+fn drawn_for_parsers() {
+    let mut table = Table::new("parts of documents for the parsers");
+    let (mut random, mut again) = (Random::new(1), Random::new(1));
+    let mut drawn = Vec::new();
+    for _ in 0..4_000 {
+        let some = forms::drawn(&mut random);
+        let found = (
+            forms::drawn(&mut again) == some,
+            some.iter().all(|s| first_bad(s).is_none()),
+        );
+        table.case("the same again, and in the domain", found, (true, true));
+        drawn.extend(some);
+    }
+    let counts = accepted(&drawn);
+    println!("of {} accepted by each parser {counts:?}", drawn.len());
+    for (number, count) in PARSERS.into_iter().zip(counts) {
+        table.case(name(number), count > 40, true);
     }
     table.end();
 }

@@ -4,6 +4,8 @@
 #[path = "../../nom/tests/table/mod.rs"]
 mod table;
 
+use driver::parsers::{PARSERS, Parsed, has_scratch, name, parser};
+use driver::show;
 use parse_hyperlinks_visible::parser::restructured_text::{
     remove_whitespace, rst_escaped_link_destination_transform, rst_escaped_link_text_transform,
     rst_explicit_markup_block, rst_label2target, rst_parse_label2target, rst_parse_simple_label,
@@ -146,6 +148,162 @@ fn blocks() {
         let found = found.map(|(rest, (a, b))| (rest, a.into_owned(), b.into_owned()));
         let expected = expected.map(|(rest, a, b)| (rest, a.to_string(), b.to_string()));
         table.case(input, found, expected);
+    }
+    table.end();
+}
+
+/// The answers of all parsers, by number, where they are no refusals.
+fn answers(input: &str) -> Vec<(u8, String)> {
+    let answer = |number| parser(number, input.as_bytes(), input.len());
+    PARSERS
+        .into_iter()
+        .map(|number| (number, answer(number)))
+        .filter(|(_, answer)| *answer != Parsed::Refused)
+        .map(|(number, answer)| (number, show::parsed(&answer)))
+        .collect()
+}
+
+#[test]
+fn numbers() {
+    let mut table = Table::new("parsers by number");
+    let inputs: [(&str, &[(u8, &str)]); 10] = [
+        ("", &[(9, r#"0 "" """#), (10, r#"0 "" """#)]),
+        (
+            "`a <u>`_ ",
+            &[
+                (1, r#"8 "a" "u""#),
+                (5, r#"8 "a <u>" """#),
+                (6, r#"8 "a <u>" "a <u>""#),
+                (9, r#"9 "`a <u>`_ " """#),
+                (10, r#"9 "`a<u>`_" """#),
+                (14, r#"8 "a" "u""#),
+                (15, r#"8 "a <u>" "a <u>""#),
+            ],
+        ),
+        (
+            r"`\:<\:_>`_",
+            &[
+                (2, r#"10 "\5C:" "\5C:""#),
+                (5, r#"10 "\5C:<\5C:_>" """#),
+                (6, r#"10 "\5C:" "\5C:""#),
+                (9, r#"10 "`:<:_>`_" """#),
+                (10, r#"10 "`:<:_>`_" """#),
+                (15, r#"10 ":" ":""#),
+            ],
+        ),
+        (
+            r"`a\_ <u\ v>`__",
+            &[
+                (3, r#"14 "a\5C_" "u\5C v""#),
+                (5, r#"13 "a\5C_ <u\5C v>" """#),
+                (6, r#"14 "a\5C_ <u\5C v>" "_""#),
+                (9, r#"14 "`a_ <uv>`__" """#),
+                (13, r#"14 "a_" "u v""#),
+                (15, r#"14 "a_ <uv>" "_""#),
+            ],
+        ),
+        (
+            "`a <b_>`__",
+            &[
+                (4, r#"10 "a" "b""#),
+                (5, r#"9 "a <b_>" """#),
+                (6, r#"10 "a <b_>" "_""#),
+                (9, r#"10 "`a <b_>`__" """#),
+                (10, r#"10 "`a<b_>`__" """#),
+                (15, r#"10 "a <b_>" "_""#),
+            ],
+        ),
+        (
+            "_a: u\n   v",
+            &[
+                (7, r#"10 "a" "u\0A   v""#),
+                (9, r#"10 "_a: u\0A   v" """#),
+                (10, r#"10 "_a:uv" """#),
+            ],
+        ),
+        (
+            "_a: b_ c",
+            &[
+                (7, r#"8 "a" "b_ c""#),
+                (8, r#"8 "a" "b""#),
+                (9, r#"8 "_a: b_ c" """#),
+                (10, r#"8 "_a:b_c" """#),
+            ],
+        ),
+        (
+            ".. _a: u\n   v\n",
+            &[
+                (9, r#"14 ".. _a: u\0A   v\0A" """#),
+                (10, r#"14 ".._a:uv" """#),
+                (11, r#"13 "_a: u v" """#),
+                (16, r#"13 "a" "uv""#),
+            ],
+        ),
+        (
+            " __ `a b`_ c",
+            &[
+                (9, r#"12 " __ `a b`_ c" """#),
+                (10, r#"12 "__`ab`_c" """#),
+                (12, r#"12 "`a b`_ c" """#),
+                (17, r#"12 "_" "ab""#),
+            ],
+        ),
+        (
+            "é__ ",
+            &[
+                (5, r#"3 "\C3\A9" """#),
+                (6, r#"4 "\C3\A9" "_""#),
+                (9, r#"5 "\C3\A9__ " """#),
+                (10, r#"5 "\C3\A9__" """#),
+                (15, r#"4 "\C3\A9" "_""#),
+            ],
+        ),
+    ];
+    for (input, expected) in inputs {
+        let expected = expected.iter().map(|(n, shown)| (*n, shown.to_string()));
+        table.case(input, answers(input), expected.collect());
+    }
+    let mut names: Vec<&str> = PARSERS.into_iter().map(name).collect();
+    names.sort_unstable();
+    names.dedup();
+    table.case("as many names", names.len(), PARSERS.len());
+    table.end();
+}
+
+#[test]
+fn scratches() {
+    let mut table = Table::new("parsers' scratches");
+    for number in PARSERS {
+        for (input, scratch) in [(&b""[..], 0), (b"a_", 2), (b"a_", 3)] {
+            let answer = parser(number, input, scratch);
+            table.case(name(number), answer == Parsed::NoRoom, false);
+            table.case(name(number), answer, parser(number, input, input.len()));
+        }
+        for scratch in [0, 1] {
+            let no_room = parser(number, b"a_", scratch) == Parsed::NoRoom;
+            table.case(name(number), no_room, has_scratch(number));
+        }
+    }
+    table.end();
+}
+
+/// The private function that both target parsers are.
+#[test]
+fn targets() {
+    let mut table = Table::new("both target parsers");
+    for case in driver::cases::parsers::parsers() {
+        let s = str::from_utf8(&case.input).expect("UTF-8");
+        for (label, number) in [(false, 16), (true, 17)] {
+            let found = match rst_label2target(label, s) {
+                Ok((rest, (first, second))) => Parsed::Found {
+                    first: first.into_owned().into_bytes().into(),
+                    second: second.into_owned().into_bytes().into(),
+                    consumed: s.len() - rest.len(),
+                },
+                Err(_) => Parsed::Refused,
+            };
+            table.case(case.name, found, parser(number, s.as_bytes(), s.len()));
+        }
     }
     table.end();
 }

@@ -6,7 +6,7 @@ mod table;
 
 use driver::pieces::{
     SCALARS, character_at, escaped, first_bad, is_word, line_ending, multispace0, newline,
-    not_line_ending, space0, space1, trim_end, word_run,
+    not_line_ending, space0, space1, tag, trim_end, word_run,
 };
 use table::Table;
 
@@ -137,5 +137,15 @@ fn values() {
         (multispace0(b" \t\r\na"), multispace0(b"a")),
         (Some(4), Some(0)),
     );
+    table.case("tag", tag(b"`_`_a", 2), Some(2));
+    table.case("tag, another", tag(b"`_`a", 2), None);
+    table.case("tag, too long", tag(b"`_`", 2), None);
+    table.case(
+        "tag, empty",
+        (tag(b"a", 0), tag(b"", 0)),
+        (Some(0), Some(0)),
+    );
+    table.case("tag, past the end", tag(b"a", 2), None);
+    table.case("tag, inside a character", tag("éé".as_bytes(), 1), None);
     table.end();
 }

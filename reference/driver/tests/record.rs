@@ -5,8 +5,9 @@
 mod table;
 
 use driver::document::{Outcome, document};
+use driver::parsers::{Parsed, parser};
 use driver::pieces::piece;
-use driver::record::{File, documents_file, pieces_file};
+use driver::record::{File, documents_file, parsers_file, pieces_file};
 use driver::recorded::Reader;
 use driver::single::{Single, take_link_at};
 use table::Table;
@@ -37,6 +38,31 @@ fn ask_pieces(file: &mut Reader, asked: &mut Asked) -> Option<()> {
         let name = format!("piece {op} {parameter} {input:02X?}");
         let recorded = accepted.then_some(values);
         asked.again(&name, piece(op, parameter, input), recorded);
+    }
+    Some(())
+}
+
+fn ask_parsers(file: &mut Reader, asked: &mut Asked) -> Option<()> {
+    for _ in 0..file.number(4)? {
+        let (number, scratch) = (file.number(1)? as u8, file.length(2)?);
+        let length = file.length(2)?;
+        let input = file.take(length)?;
+        let accepted = file.number(1)?;
+        let (first, second) = (file.length(2)?, file.length(2)?);
+        let (first, second) = (file.take(first)?, file.take(second)?);
+        let consumed = file.length(2)?;
+        let recorded = match accepted {
+            0 => Parsed::Refused,
+            1 => Parsed::Found {
+                first: first.into(),
+                second: second.into(),
+                consumed,
+            },
+            2 => Parsed::NoRoom,
+            _ => return None,
+        };
+        let name = format!("parser {number} {scratch} {input:02X?}");
+        asked.again(&name, parser(number, input, scratch), recorded);
     }
     Some(())
 }
@@ -126,6 +152,7 @@ fn check(
 fn files() {
     let mut table = Table::new("recorded files");
     check(&mut table, pieces_file(), 200_000, ask_pieces);
+    check(&mut table, parsers_file(), 260_000, ask_parsers);
     check(&mut table, documents_file(), 500_000, ask_documents);
     table.end();
 }

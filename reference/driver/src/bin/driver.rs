@@ -4,10 +4,12 @@
 //!     driver links
 //!     driver single PLACE
 //!     driver names
+//!     driver parser NUMBER
 
 use driver::cases::{OUTPUT_ENOUGH, STRING_ENOUGH};
 use driver::document::{BYTES_MIN, NUMBERS_MIN, document};
 use driver::names::names_of;
+use driver::parsers::{PARSERS, parser};
 use driver::pieces::first_bad;
 use driver::show;
 use driver::single::take_link_at;
@@ -17,7 +19,8 @@ use std::process::ExitCode;
 const USAGE: &str = "usage: driver document [--render N] [--numbers N] [--bytes N] [--output N]
        driver links
        driver single PLACE
-       driver names";
+       driver names
+       driver parser NUMBER";
 
 fn main() -> ExitCode {
     let words: Vec<String> = std::env::args().skip(1).collect();
@@ -44,6 +47,7 @@ fn answer(words: &[&str], doc: &[u8]) -> Option<String> {
         ["links"] => Some(show::program(doc)),
         ["single", place] => Some(single_answer(place.parse().ok()?, doc)),
         ["names"] => Some(names_answer(doc)),
+        ["parser", number] => parser_answer(number.parse().ok()?, doc),
         _ => None,
     }
 }
@@ -89,4 +93,15 @@ fn names_answer(doc: &[u8]) -> String {
         (None, Ok(text)) => show::names(&names_of(text)) + "\n",
         _ => "outside the domain\n".to_string(),
     }
+}
+
+/// Consumed and both parts or strings, with a scratch that just suffices.
+fn parser_answer(number: u8, doc: &[u8]) -> Option<String> {
+    if !PARSERS.contains(&number) {
+        return None;
+    }
+    Some(match first_bad(doc) {
+        None => show::parsed(&parser(number, doc, doc.len())) + "\n",
+        Some(_) => "outside the domain\n".to_string(),
+    })
 }

@@ -1,7 +1,7 @@
 //! Writes the recorded answers into crates/vectors/data, or with `--check`
 //! makes them again and compares.
 
-use driver::record::{File, documents_file, pieces_file};
+use driver::record::{File, documents_file, parsers_file, pieces_file};
 use std::path::{Path, PathBuf};
 use std::process::ExitCode;
 
@@ -10,6 +10,7 @@ fn main() -> ExitCode {
     let data = Path::new(env!("CARGO_MANIFEST_DIR")).join("../../crates/vectors/data");
     let files = [
         (data.join("pieces.bin"), pieces_file()),
+        (data.join("parsers.bin"), parsers_file()),
         (data.join("documents.bin"), documents_file()),
     ];
     match words.iter().map(String::as_str).collect::<Vec<_>>()[..] {

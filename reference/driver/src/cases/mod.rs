@@ -1,6 +1,7 @@
 //! Tables of cases with the answers that the papers give, as one line of text
 //! each (see `show`). The tests run them, and `record` records their documents.
 
+pub mod parsers;
 pub mod reading;
 pub mod scope;
 

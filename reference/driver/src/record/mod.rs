@@ -1,11 +1,13 @@
-//! The recorded answers: what the two files of crates/vectors/data hold. Their
+//! The recorded answers: what the three files of crates/vectors/data hold. Their
 //! layouts are said in the README beside them; here stand the inputs and the
 //! order. A file is a list of chunks, each with one answer.
 
 mod documents;
+mod parsers;
 mod pieces;
 
 pub use documents::documents_file;
+pub use parsers::parsers_file;
 pub use pieces::pieces_file;
 
 /// The seed of everything drawn here.

@@ -35,6 +35,9 @@ pub fn pieces_file() -> File {
             ask(&mut asked, 6, stop_set as u8, &input);
         }
     }
+    for (tag, input) in tag_inputs() {
+        ask(&mut asked, 13, tag as u8, &input);
+    }
     let chunks = asked.iter().map(piece_chunk).collect();
     File::counted(asked.len(), chunks, recorded::piece_chunks)
 }
@@ -116,6 +119,22 @@ fn escape_inputs() -> Vec<Vec<u8>> {
             ])
         };
         list.push((0..length).map(token).collect::<String>().into_bytes());
+    }
+    list
+}
+
+/// Texts for `tag`, with its length: each that the parsers ask for, before
+/// itself, before others, and before a part of itself.
+fn tag_inputs() -> Vec<(usize, Vec<u8>)> {
+    let tags = [
+        "", "`", "`_", "`__", "_`", "`: ", "_", ": ", "<", ">", ".. ", "__ ", "   ", "é",
+    ];
+    let mut list = Vec::new();
+    for tag in tags {
+        for behind in tags {
+            list.push((tag.len(), [tag, behind].concat().into_bytes()));
+            list.push((tag.len(), [tag, tag, behind].concat().into_bytes()));
+        }
     }
     list
 }

@@ -9,9 +9,6 @@ use Rattle.rst_bytes.specs.Domain.{run, any}
 use Rattle.rst_bytes.proofs.DomainLaws.{char-at-within, at-taken, outside-at, outside-nowhere}
 use Rattle.rst_bytes.proofs.domain.first_outside.Statement.{statement}
 use Rattle.rst_bytes.proofs.domain.first_outside.Tie as tie
-use Rattle.rst_bytes.proofs.domain.first_outside.Reads as reads
-use Rattle.rst_bytes.proofs.domain.first_outside.Lts as lts
-use Rattle.rst_bytes.proofs.domain.char_at.Reads as char-at-reads
 
 abbrev Inv-loop : tie.InvT-loop
 Inv-loop s i₀ i = (i ≤ length s) × (run any 0 0 s ≡ run any 0 i (drop i s))

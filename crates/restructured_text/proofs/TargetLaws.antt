@@ -1,0 +1,524 @@
+-- The laws of `specs/Target.antt`: names, targets and blocks by the code's tests; where name and target stand; how much a target
+-- block consumes; that none is both an alias and a destination; and that LF and a tail behind the input change nothing.
+-- Assumes nothing.
+use Prim.Native.Nat.{ℕ, _+_, _<_, _≤_}
+use native.Mathlib.Omega.{arith}
+use mathlib.Core.Path.{_≡_, refl, sym, ap, subst, subst⁻¹, _∙_}
+use mathlib.Core.List.{List, [], _∷_, _++_}
+use mathlib.Core.Bool.{Bool, true, false, false≢true}
+use mathlib.Core.Logic.{_⊎_, inl, inr, ⊎-elim}
+use lib.ListN.{length, drop, take, set, length-take, length-drop}
+use lib.Seq.{take-length}
+use borrow.Author.Tests.{lt-ltb, le-ltb}
+use borrow.Rule.Slice.PartMut.{midOf, putMid}
+use Rattle.rst_bytes.specs.Appending.{free, Body, Tail}
+use Rattle.rst_bytes.specs.Escaped.{isStop}
+use Rattle.rst_bytes.specs.declared.Part.{Part}
+use Rattle.rst_bytes.specs.declared.Part.the-variants.{Taken, Refused}
+use Rattle.restructured_text.specs.declared.Span.{Span}
+use Rattle.restructured_text.specs.declared.Spans.{Spans}
+use Rattle.restructured_text.specs.declared.Spans.the-variants.{Parsed, Nothing}
+use Rattle.restructured_text.specs.declared.label.Label.{Label}
+use Rattle.restructured_text.specs.declared.label.SimpleLabel.{SimpleLabel}
+use Rattle.restructured_text.specs.declared.label.SimpleLabel.the-variants.{Named, NoLabel}
+use Rattle.restructured_text.specs.declared.target.Name.{Name}
+use Rattle.restructured_text.specs.declared.target.Name.the-variants.{Is, NoName}
+use Rattle.restructured_text.specs.declared.target.Rest.{Rest}
+use Rattle.restructured_text.specs.declared.target.Rest.the-variants.{Target, NoTarget}
+use Rattle.restructured_text.specs.declared.block.Block.{Block}
+use Rattle.restructured_text.specs.declared.block.Block.the-variants.{Joined, NoBlock, NoScratch}
+use Rattle.restructured_text.specs.declared.transform.Transformed.the-variants.{Text, Wrong}
+use Rattle.restructured_text.specs.Delimited.{delimitedOf}
+use Rattle.restructured_text.specs.Label.{simpleLabelOf}
+use Rattle.restructured_text.specs.Block.{BlockText, block, no-block, no-scratch, blockOf, blockIn, lentBlock}
+use Rattle.restructured_text.specs.Transform.{Given, whole, refused, textOf, destinationOf, answerOf, bytesOf, over}
+use Rattle.restructured_text.specs.Strings.{Link, link, none, no-room, part, paired, linked, lent}
+use Rattle.restructured_text.specs.Target.{plainNameOf, nameOf, labelIn, restOf, isNamed, excluded, behindName, parseLabel2targetOf, namedIn, namedOf, anonymousIn, anonymousOf, anonymousBlockOf, label2targetOf, label2destOf, label2labelOf}
+use Rattle.rst_bytes.proofs.TestLaws.{lt-or-le}
+use Rattle.restructured_text.proofs.DelimitedLaws.{delimited-within}
+use Rattle.restructured_text.proofs.LabelLaws.{Standing, simple-standing}
+use Rattle.restructured_text.proofs.TransformLaws.{answer-part, answer-refused, text-le, destination-le}
+use Rattle.restructured_text.proofs.PartLaws.{part-length, part-front, put-here, put-length, set-here, set-before}
+use Rattle.restructured_text.proofs.Text2targetLaws.{Apart}
+use Rattle.restructured_text.proofs.BlockLaws.{lent-short, lent-enough, block-consumed, block-scratch, block-lf}
+use Rattle.restructured_text.proofs.StringsLaws.{reach}
+
+-- A name, by the code's tests: in backticks, else plain.
+abbrev quotedIn : List ℕ → Part
+quotedIn s = delimitedOf (0x5F ∷ 0x60 ∷ []) 0x60 0x60 (0x60 ∷ 0x3A ∷ 0x20 ∷ []) s
+
+abbrev plainIn : List ℕ → Part
+plainIn s = delimitedOf (0x5F ∷ []) 0x3A 0x3A (0x3A ∷ 0x20 ∷ []) s
+
+module _ (s : List ℕ) where
+  pub name-quoted : (n : ℕ) → quotedIn s ≡ Taken n → nameOf s ≡ Is (record { start = 2; len = n }) (n + 5)
+  unfolding nameOf
+  name-quoted n e = simp (e, nameOf)
+
+  module _ (e : quotedIn s ≡ Refused) where
+    pub name-plain : (n : ℕ) → plainIn s ≡ Taken n → nameOf s ≡ Is (record { start = 1; len = n }) (n + 3)
+    unfolding nameOf plainNameOf
+    name-plain n f = simp (e, f, nameOf, plainNameOf)
+
+    pub name-none : plainIn s ≡ Refused → nameOf s ≡ NoName
+    unfolding nameOf plainNameOf
+    name-none f = simp (e, f, nameOf, plainNameOf)
+
+-- what they take lies within the text
+module _ (s : List ℕ) (n : ℕ) where
+  pub quoted-within : quotedIn s ≡ Taken n → n + 5 ≤ length s
+  quoted-within e = let w = delimited-within (0x5F ∷ 0x60 ∷ []) 0x60 0x60 (0x60 ∷ 0x3A ∷ 0x20 ∷ []) s n e in omega arith
+
+  pub plain-within : plainIn s ≡ Taken n → n + 3 ≤ length s
+  plain-within e = let w = delimited-within (0x5F ∷ []) 0x3A 0x3A (0x3A ∷ 0x20 ∷ []) s n e in omega arith
+
+-- The target in the rest, and what is excluded, by what is asked for.
+module _ (label : Bool) (s : List ℕ) where
+  pub rest-label : (x : SimpleLabel) → label ≡ true → simpleLabelOf s ≡ x → restOf label s ≡ labelIn x
+  unfolding restOf
+  rest-label x l e = rw (l, e)
+
+  pub rest-all : label ≡ false → restOf label s ≡ Target (record { start = 0; len = length s })
+  unfolding restOf
+  rest-all l = rw l
+
+  pub excluded-label : label ≡ true → excluded label s ≡ false
+  unfolding excluded
+  excluded-label l = rw l
+
+  pub excluded-rest : (x : SimpleLabel) → label ≡ false → simpleLabelOf s ≡ x → excluded label s ≡ isNamed x
+  unfolding excluded
+  excluded-rest x l e = rw (l, e)
+
+-- Name and target: v is what stands behind the name.
+module _ (label : Bool) (s : List ℕ) where
+  pub parse-none : nameOf s ≡ NoName → parseLabel2targetOf label s ≡ Nothing
+  unfolding parseLabel2targetOf
+  parse-none e = simp (e, parseLabel2targetOf)
+
+  pub parse-rest : (name : Span) (k : ℕ) (v : List ℕ) (x : Rest) → nameOf s ≡ Is name k → v ≡ drop k s → restOf label v ≡ x → parseLabel2targetOf label s ≡ behindName s name k x
+  unfolding parseLabel2targetOf
+  parse-rest name k v x e iv f = simp (e, ← iv, f, parseLabel2targetOf)
+
+-- Where a name and its colon stand, and what is behind them.
+abbrev NameIn : ℕ → Name → Type 0
+NameIn size (Is name k) = (name .start + name .len ≤ k) × (0 < k) × (k ≤ size)
+NameIn size NoName = Unit {0}
+
+name-in : (s : List ℕ) → NameIn (length s) (nameOf s)
+name-in s = quoted (quotedIn s) refl
+  where
+    plain : quotedIn s ≡ Refused → (x : Part) → plainIn s ≡ x → NameIn (length s) (nameOf s)
+    plain e (Taken n) f = subst⁻¹ (NameIn (length s)) (name-plain s e n f) (omega arith, omega arith, plain-within s n f)
+    plain e Refused f = subst⁻¹ (NameIn (length s)) (name-none s e f) tt
+
+    quoted : (x : Part) → quotedIn s ≡ x → NameIn (length s) (nameOf s)
+    quoted (Taken n) e = subst⁻¹ (NameIn (length s)) (name-quoted s n e) (omega arith, omega arith, quoted-within s n e)
+    quoted Refused e = plain e _ refl
+
+-- The target stands within the rest.
+abbrev RestIn : ℕ → Rest → Type 0
+RestIn size (Target t) = t .start + t .len ≤ size
+RestIn size NoTarget = Unit {0}
+
+rest-in : (label : Bool) (s : List ℕ) → RestIn (length s) (restOf label s)
+rest-in label s = go label refl
+  where
+    standing : (x : SimpleLabel) → Standing (length s) x → RestIn (length s) (labelIn x)
+    standing (Named l n) w = omega (arith, w .0, w .1)
+    standing NoLabel w = tt
+
+    go : (l : Bool) → label ≡ l → RestIn (length s) (restOf label s)
+    go true l = subst⁻¹ (RestIn (length s)) (rest-label label s _ l refl) (standing (simpleLabelOf s) (simple-standing s))
+    go false l = subst⁻¹ (RestIn (length s)) (rest-all label s l) (omega arith)
+
+-- Both by what the code has: v is what stands behind the name.
+module _ (s : List ℕ) (name : Span) (k : ℕ) (e : nameOf s ≡ Is name k) where
+  pub name-within : k ≤ length s
+  name-within = subst (NameIn (length s)) e (name-in s) .2
+
+  pub target-within : (label : Bool) (v : List ℕ) (t : Span) → v ≡ drop k s → restOf label v ≡ Target t → k + t .start ≤ length s
+  target-within label v t iv f = omega (arith, name-within, subst (RestIn (length v)) f (rest-in label v), ap length iv, length-drop k s)
+
+-- Name and target stand one behind the other.
+pub parse-apart : (label : Bool) (s : List ℕ) → Apart (length s) (parseLabel2targetOf label s)
+parse-apart label s = go (nameOf s) refl (name-in s)
+  where
+    rest : (name : Span) (k : ℕ) → NameIn (length s) (Is name k) → (x : Rest) → RestIn (length (drop k s)) x → Apart (length s) (behindName s name k x)
+    rest name k w (Target t) v = (omega (arith, w .0), omega (arith, w .2, v, length-drop k s), omega arith, omega (arith, w .1, w .2))
+    rest name k w NoTarget v = tt
+
+    go : (x : Name) → nameOf s ≡ x → NameIn (length s) (nameOf s) → Apart (length s) (parseLabel2targetOf label s)
+    go (Is name k) e w =
+        subst⁻¹ (Apart (length s)) (parse-rest label s name k _ _ e refl refl)
+        (rest name k (subst (NameIn (length s)) e w) (restOf label (drop k s)) (rest-in label (drop k s)))
+    go NoName e w = subst⁻¹ (Apart (length s)) (parse-none label s e) tt
+
+-- A part, as `&s[b..e]` has it.
+part-reach : (a : Span) (s : List ℕ) → midOf (a .start) (reach a) s ≡ part a s
+part-reach a s =
+    let e : reach a ≡ a .len = omega arith in
+    ap (λ (k : ℕ). take k (drop (a .start) s)) e
+
+-- The target of a `.. ` block by the code's tests.
+module _ (label : Bool) (text : List ℕ) (n : ℕ) where
+  pub named-none : parseLabel2targetOf label text ≡ Nothing → namedOf label text n ≡ none
+  unfolding namedOf
+  named-none e = simp (e, namedIn)
+
+  module _ (a b : Span) (m : ℕ) (e : parseLabel2targetOf label text ≡ Parsed a b m) where
+    named-excluded : excluded label (part b text) ≡ true → namedOf label text n ≡ none
+    unfolding namedOf
+    named-excluded f = simp (e, f, namedIn)
+
+    named-linked : excluded label (part b text) ≡ false → namedOf label text n ≡ linked true text a b n
+    unfolding namedOf
+    named-linked f = simp (e, f, namedIn)
+
+-- That of a `__ ` block.
+module _ (label : Bool) (text : List ℕ) (n : ℕ) where
+  pub anonymous-none : restOf label text ≡ NoTarget → anonymousOf label text n ≡ none
+  unfolding anonymousOf
+  anonymous-none e = simp (e, anonymousIn)
+
+  module _ (t : Span) (e : restOf label text ≡ Target t) where
+    anonymous-excluded : excluded label (part t text) ≡ true → anonymousOf label text n ≡ none
+    unfolding anonymousOf
+    anonymous-excluded f = simp (e, f, anonymousIn)
+
+    anonymous-paired : excluded label (part t text) ≡ false → anonymousOf label text n ≡ paired (whole (0x5F ∷ [])) (destinationOf (part t text)) n
+    unfolding anonymousOf
+    anonymous-paired f = simp (e, f, anonymousIn)
+
+-- The text of a `.. ` block is the first len bytes of d.
+module _ (label : Bool) (d : List ℕ) (len n : ℕ) (h : (len ≤ n) × (n ≤ length d)) (a b : Span) (m : ℕ) (e : parseLabel2targetOf label (take len d) ≡ Parsed a b m) where
+  -- name and target stand one behind the other in it
+  pub named-text : b .start + b .len ≤ length (take len d)
+  named-text = let w = subst (Apart (length (take len d))) e (parse-apart label (take len d)) in omega (arith, w .1, w .2)
+
+  pub named-apart : (a .start + a .len ≤ b .start) × (b .start + b .len ≤ n) × (n ≤ length d)
+  named-apart =
+      (subst (Apart (length (take len d))) e (parse-apart label (take len d)) .0, omega (arith, named-text, length-take len d), h .1)
+
+  named-within : b .start + b .len ≤ len
+  named-within = omega (arith, named-text, length-take len d)
+
+  -- the target is excluded
+  pub named-alias : excluded label (midOf (b .start) (reach b) (take len d)) ≡ true → namedOf label (take len d) n ≡ none
+  named-alias f = named-excluded label (take len d) n a b m e (ap (excluded label) (sym (part-reach b (take len d))) ∙ f)
+
+  -- it is not: name and target are the parts of d
+  pub named-found : excluded label (midOf (b .start) (reach b) (take len d)) ≡ false → namedOf label (take len d) n ≡ linked true d a b n
+  named-found f =
+      named-linked label (take len d) n a b m e (ap (excluded label) (sym (part-reach b (take len d))) ∙ f)
+      ∙ ap (λ (x : List ℕ). paired (textOf x) (destinationOf (part b (take len d))) n) (part-front (a .start) (a .len) len d (omega (arith, named-apart .0, named-within)))
+      ∙ ap (λ (x : List ℕ). paired (textOf (part a d)) (destinationOf x) n) (part-front (b .start) (b .len) len d named-within)
+
+-- The text of a `__ ` block is the first len bytes of d.
+module _ (label : Bool) (d : List ℕ) (len n : ℕ) (h : (len < n) × (n ≤ length d)) (t : Span) (e : restOf label (take len d) ≡ Target t) where
+  -- the target stands in it
+  pub anonymous-text : t .start + t .len ≤ length (take len d)
+  anonymous-text = subst (RestIn (length (take len d))) e (rest-in label (take len d))
+
+  pub anonymous-within : t .start + t .len ≤ len
+  anonymous-within = omega (arith, anonymous-text, length-take len d)
+
+  -- the target is excluded
+  pub anonymous-alias : excluded label (midOf (t .start) (reach t) (take len d)) ≡ true → anonymousOf label (take len d) n ≡ none
+  anonymous-alias f = anonymous-excluded label (take len d) n t e (ap (excluded label) (sym (part-reach t (take len d))) ∙ f)
+
+  -- it is not: the transform left y in its place
+  module _ (f : excluded label (midOf (t .start) (reach t) (take len d)) ≡ false) where
+    -- the target is the part of d
+    anonymous-part : anonymousOf label (take len d) n ≡ paired (whole (0x5F ∷ [])) (destinationOf (midOf (t .start) (reach t) d)) n
+    anonymous-part =
+        anonymous-paired label (take len d) n t e (ap (excluded label) (sym (part-reach t (take len d))) ∙ f)
+        ∙ ap (λ (x : List ℕ). paired (whole (0x5F ∷ [])) (destinationOf x) n) (part-front (t .start) (t .len) len d anonymous-within ∙ sym (part-reach t d))
+
+    -- it was refused
+    pub anonymous-wrong : Wrong ≡ answerOf (destinationOf (midOf (t .start) (reach t) d)) → anonymousOf label (take len d) n ≡ none
+    anonymous-wrong g = anonymous-part ∙ ap (λ (x : Given). paired (whole (0x5F ∷ [])) x n) (answer-refused (destinationOf (midOf (t .start) (reach t) d)) g)
+
+    -- it gave a string; the name was put behind the text
+    module _ (y z : List ℕ) (l : length y ≡ length (midOf (t .start) (reach t) d)) where
+      abbrev left : List ℕ
+      left = set (putMid (t .start) (reach t) d y) len 0x5F
+
+      pub anonymous-found :
+          (j : ℕ) → Text j ≡ answerOf (destinationOf (midOf (t .start) (reach t) d)) → y ≡ over (bytesOf (destinationOf (midOf (t .start) (reach t) d))) z
+          → (link (take 1 (drop len left)) (take j (drop (t .start) left)) n ≡ anonymousOf label (take len d) n) × ((len + 1 ≤ n) × (t .start + j ≤ n))
+      anonymous-found j g i =
+          let w = answer-part (destinationOf (midOf (t .start) (reach t) d)) z y j g i in
+          let p : length (midOf (t .start) (reach t) d) ≡ reach t = part-length (t .start) (reach t) d (omega (arith, anonymous-within)) in
+          let q : length (putMid (t .start) (reach t) d y) ≡ length d = put-length (t .start) (reach t) d y (omega (arith, anonymous-within)) (l ∙ p) in
+          let r : t .start + j ≤ len = omega (arith, anonymous-within, w .1, l, p) in
+          let u : take 1 (drop len left) ≡ 0x5F ∷ [] = set-here (putMid (t .start) (reach t) d y) len 0x5F (omega (arith, q)) in
+          let v : take j (drop (t .start) left) ≡ take j y = set-before (putMid (t .start) (reach t) d y) len 0x5F (t .start) j r ∙ put-here (t .start) (reach t) d y j (omega (arith, anonymous-within)) (w .1) in
+          (rw (u, v) (sym (anonymous-part ∙ ap (λ (x : Given). paired (whole (0x5F ∷ [])) x n) (w .0))), (omega arith, omega (arith, r)))
+
+-- A block's start, `.. ` or `__ `.
+abbrev dots : List ℕ
+dots = 0x2E ∷ 0x2E ∷ 0x20 ∷ []
+
+abbrev strokes : List ℕ
+strokes = 0x5F ∷ 0x5F ∷ 0x20 ∷ []
+
+-- the target by the two blocks
+abbrev targetIn : Bool → BlockText → BlockText → Link
+targetIn label (block text n) y = namedOf label text n
+targetIn label no-block y = anonymousBlockOf label y
+targetIn label no-scratch y = no-room
+
+target-is : (label : Bool) (s : List ℕ) → targetIn label (blockOf dots s) (blockOf strokes s) ≡ label2targetOf label s
+unfolding label2targetOf
+target-is label s = go (blockOf dots s) refl
+  where
+    go : (x : BlockText) → blockOf dots s ≡ x → targetIn label (blockOf dots s) (blockOf strokes s) ≡ label2targetOf label s
+    go (block text n) e = simp (e, label2targetOf)
+    go no-block e = simp (e, label2targetOf)
+    go no-scratch e = simp (e, label2targetOf)
+
+-- the scratch that is lent to the readers is long enough for both, or for neither
+target-lent : (label : Bool) (s d d′ : List ℕ) → length d′ ≡ length d → targetIn label (lentBlock s d (blockOf dots s)) (lentBlock s d′ (blockOf strokes s)) ≡ lent s d (label2targetOf label s)
+target-lent label s d d′ h = ⊎-elim short enough (lt-or-le (length d) (length s))
+  where
+    short : length d < length s → targetIn label (lentBlock s d (blockOf dots s)) (lentBlock s d′ (blockOf strokes s)) ≡ lent s d (label2targetOf label s)
+    short l =
+        ap (λ (x : BlockText). targetIn label x (lentBlock s d′ (blockOf strokes s))) (lent-short dots s d l)
+        ∙ sym (ap (λ (t : Bool). elim t [ true ↦ no-room | false ↦ label2targetOf label s ]) (lt-ltb (length d) (length s) l))
+
+    enough : length s ≤ length d → targetIn label (lentBlock s d (blockOf dots s)) (lentBlock s d′ (blockOf strokes s)) ≡ lent s d (label2targetOf label s)
+    enough l =
+        ap (λ (x : BlockText). targetIn label x (lentBlock s d′ (blockOf strokes s))) (lent-enough dots s d l)
+        ∙ ap (targetIn label (blockOf dots s)) (lent-enough strokes s d′ (omega arith))
+        ∙ target-is label s
+        ∙ sym (ap (λ (t : Bool). elim t [ true ↦ no-room | false ↦ label2targetOf label s ]) (le-ltb (length d) (length s) l))
+
+-- A block of the first len bytes of d′, when d was lent, ends within n bytes, and these within d′.
+joined-within : (header s d d′ : List ℕ) (len n : ℕ) → 0 < length header → length d′ ≡ length d → block (take len d′) n ≡ lentBlock s d (blockOf header s) → (len < n) × (n ≤ length d′)
+joined-within header s d d′ len n h l e = ⊎-elim short enough (lt-or-le (length d) (length s))
+  where
+    short : length d < length s → (len < n) × (n ≤ length d′)
+    short g = absurd (block-is (take len d′) n (e ∙ lent-short header s d g))
+      where
+        block-is : (text : List ℕ) (n : ℕ) → block text n ≡ no-scratch → ⊥
+        block-is text n f = false≢true (ap joins f)
+          where
+            joins : BlockText → Bool
+            joins (block t m) = false
+            joins no-block = false
+            joins no-scratch = true
+
+    enough : length s ≤ length d → (len < n) × (n ≤ length d′)
+    enough g =
+        let w = block-consumed header s (take len d′) n (sym (e ∙ lent-enough header s d g)) in
+        (omega (arith, w .0, w .1, length-take len d′), omega (arith, w .1))
+
+-- What the first reader answered, and left in d′.
+module _ (s d d′ : List ℕ) (x : Block) (l : length d′ ≡ length d) (f : blockIn x d′ ≡ lentBlock s d (blockOf dots s)) where
+  pub named-room : (len n : ℕ) → x ≡ Joined len n → (len ≤ n) × (n ≤ length d′)
+  named-room len n e =
+      let w = joined-within dots s d d′ len n (omega arith) l (sym (ap (λ (b : Block). blockIn b d′) e) ∙ f) in
+      (omega (arith, w .0), w .1)
+
+  module _ (label : Bool) where
+    first : (y : BlockText) → blockIn x d′ ≡ y → targetIn label y (lentBlock s d (blockOf strokes s)) ≡ lent s d (label2targetOf label s)
+    first y e = ap (λ (b : BlockText). targetIn label b (lentBlock s d (blockOf strokes s))) (sym e ∙ f) ∙ target-lent label s d d refl
+
+    pub target-named : (len n : ℕ) → x ≡ Joined len n → namedOf label (take len d′) n ≡ lent s d (label2targetOf label s)
+    target-named len n e = first _ (ap (λ (b : Block). blockIn b d′) e)
+
+    pub target-no-room : x ≡ NoScratch → no-room ≡ lent s d (label2targetOf label s)
+    target-no-room e = first _ (ap (λ (b : Block). blockIn b d′) e)
+
+  -- There was no block. What the second reader answered, and left in d″.
+  module _ (e : x ≡ NoBlock) (d″ : List ℕ) (y : Block) (g : blockIn y d″ ≡ lentBlock s d′ (blockOf strokes s)) where
+    pub anonymous-room : length d″ ≡ length d′ → (len n : ℕ) → y ≡ Joined len n → (len < n) × (n ≤ length d″)
+    anonymous-room m len n i = joined-within strokes s d′ d″ len n (omega arith) m (sym (ap (λ (b : Block). blockIn b d″) i) ∙ g)
+
+    module _ (label : Bool) where
+      second : (z : Block) → y ≡ z → anonymousBlockOf label (blockIn z d″) ≡ lent s d (label2targetOf label s)
+      second z i =
+          ap (anonymousBlockOf label) (sym (ap (λ (b : Block). blockIn b d″) i) ∙ g)
+          ∙ ap (λ (b : BlockText). targetIn label b (lentBlock s d′ (blockOf strokes s))) (sym (ap (λ (b : Block). blockIn b d′) e) ∙ f)
+          ∙ target-lent label s d d′ l
+
+      pub target-anonymous : (len n : ℕ) → y ≡ Joined len n → anonymousOf label (take len d″) n ≡ lent s d (label2targetOf label s)
+      target-anonymous len n i = second (Joined len n) i
+
+      pub target-none : y ≡ NoBlock → none ≡ lent s d (label2targetOf label s)
+      target-none i = second NoBlock i
+
+      pub target-no-room₂ : y ≡ NoScratch → no-room ≡ lent s d (label2targetOf label s)
+      target-no-room₂ i = second NoScratch i
+
+-- With a destination, or with an alias.
+pub dest-lent : (s d : List ℕ) → lent s d (label2targetOf false s) ≡ lent s d (label2destOf s)
+unfolding label2destOf
+dest-lent s d = refl
+
+pub label-lent : (s d : List ℕ) → lent s d (label2targetOf true s) ≡ lent s d (label2labelOf s)
+unfolding label2labelOf
+label-lent s d = refl
+
+-- What a link consumes: at least one byte, at most `size`, and as many as its strings have together. There is no want of scratch.
+abbrev LinkIn : ℕ → Link → Type 0
+LinkIn size (link x y n) = (0 < n) × (n ≤ size) × (length x + length y ≤ n)
+LinkIn size none = Unit {0}
+LinkIn size no-room = ⊥
+
+paired-in : (size n : ℕ) (g h : Given) → n ≤ size → 0 < n → length (bytesOf g) + length (bytesOf h) ≤ n → LinkIn size (paired g h n)
+paired-in size n (whole x) (whole y) l p w = (p, l, w)
+paired-in size n (whole x) (refused y) l p w = tt
+paired-in size n (refused x) h l p w = tt
+
+module _ (label : Bool) (text : List ℕ) (n size : ℕ) (l : n ≤ size) (h : length text < n) where
+  named-in : LinkIn size (namedOf label text n)
+  named-in = go (parseLabel2targetOf label text) refl (parse-apart label text)
+    where
+      both : (a b : Span) (m : ℕ) → Apart (length text) (Parsed a b m) → LinkIn size (linked true text a b n)
+      both a b m w =
+          paired-in size n (textOf (part a text)) (destinationOf (part b text)) l (omega arith)
+          (omega (arith, w .0, w .1, w .2, text-le (part a text), destination-le (part b text), length-take (a .len) (drop (a .start) text), length-take (b .len) (drop (b .start) text)))
+
+      test : (a b : Span) (m : ℕ) → parseLabel2targetOf label text ≡ Parsed a b m → Apart (length text) (Parsed a b m) → (x : Bool) → excluded label (part b text) ≡ x → LinkIn size (namedOf label text n)
+      test a b m e w true f = subst⁻¹ (LinkIn size) (named-excluded label text n a b m e f) tt
+      test a b m e w false f = subst⁻¹ (LinkIn size) (named-linked label text n a b m e f) (both a b m w)
+
+      go : (x : Spans) → parseLabel2targetOf label text ≡ x → Apart (length text) (parseLabel2targetOf label text) → LinkIn size (namedOf label text n)
+      go (Parsed a b m) e w = test a b m e (subst (Apart (length text)) e w) _ refl
+      go Nothing e w = subst⁻¹ (LinkIn size) (named-none label text n e) tt
+
+  anonymous-in : LinkIn size (anonymousOf label text n)
+  anonymous-in = go (restOf label text) refl (rest-in label text)
+    where
+      test : (t : Span) → restOf label text ≡ Target t → t .start + t .len ≤ length text → (x : Bool) → excluded label (part t text) ≡ x → LinkIn size (anonymousOf label text n)
+      test t e w true f = subst⁻¹ (LinkIn size) (anonymous-excluded label text n t e f) tt
+      test t e w false f =
+          subst⁻¹ (LinkIn size) (anonymous-paired label text n t e f)
+          (paired-in size n (whole (0x5F ∷ [])) (destinationOf (part t text)) l (omega arith)
+          (omega (arith, w, destination-le (part t text), length-take (t .len) (drop (t .start) text))))
+
+      go : (x : Rest) → restOf label text ≡ x → RestIn (length text) (restOf label text) → LinkIn size (anonymousOf label text n)
+      go (Target t) e w = test t e (subst (RestIn (length text)) e w) _ refl
+      go NoTarget e w = subst⁻¹ (LinkIn size) (anonymous-none label text n e) tt
+
+target-in : (label : Bool) (s : List ℕ) → LinkIn (length s) (label2targetOf label s)
+target-in label s = subst (LinkIn (length s)) (target-is label s) (named (blockOf dots s) refl)
+  where
+    anonymous : (y : BlockText) → blockOf strokes s ≡ y → LinkIn (length s) (anonymousBlockOf label y)
+    anonymous (block text n) e = let w = block-consumed strokes s text n e in anonymous-in label text n (length s) (w .1) (omega (arith, w .0))
+    anonymous no-block e = tt
+    anonymous no-scratch e = absurd (block-scratch strokes s e)
+
+    named : (x : BlockText) → blockOf dots s ≡ x → LinkIn (length s) (targetIn label x (blockOf strokes s))
+    named (block text n) e = let w = block-consumed dots s text n e in named-in label text n (length s) (w .1) (omega (arith, w .0))
+    named no-block e = anonymous (blockOf strokes s) refl
+    named no-scratch e = absurd (block-scratch dots s e)
+
+pub label2target-consumed : (label : Bool) (s x y : List ℕ) (n : ℕ) → label2targetOf label s ≡ link x y n → (0 < n) × (n ≤ length s) × (length x + length y ≤ n)
+label2target-consumed label s x y n e = subst (LinkIn (length s)) e (target-in label s)
+
+pub label2target-room : (label : Bool) (s : List ℕ) → label2targetOf label s ≡ no-room → ⊥
+label2target-room label s e = subst (LinkIn (length s)) e (target-in label s)
+
+-- and so for either
+module _ (s : List ℕ) where
+  pub label2dest-consumed : (x y : List ℕ) (n : ℕ) → label2destOf s ≡ link x y n → (0 < n) × (n ≤ length s) × (length x + length y ≤ n)
+  unfolding label2destOf
+  label2dest-consumed x y n e = label2target-consumed false s x y n e
+
+  pub label2label-consumed : (x y : List ℕ) (n : ℕ) → label2labelOf s ≡ link x y n → (0 < n) × (n ≤ length s) × (length x + length y ≤ n)
+  unfolding label2labelOf
+  label2label-consumed x y n e = label2target-consumed true s x y n e
+
+  pub label2dest-room : label2destOf s ≡ no-room → ⊥
+  unfolding label2destOf
+  label2dest-room e = label2target-room false s e
+
+  pub label2label-room : label2labelOf s ≡ no-room → ⊥
+  unfolding label2labelOf
+  label2label-room e = label2target-room true s e
+
+-- A text gives an alias or a destination: the alias begins with a simple label, which excludes the destination.
+module _ (text : List ℕ) (n : ℕ) where
+  -- the label at the front excludes the whole
+  whole-excluded : (v : List ℕ) (l : Label) (m : ℕ) → simpleLabelOf v ≡ Named l m → (w : List ℕ) → w ≡ v → excluded false w ≡ true
+  whole-excluded v l m e w i = excluded-rest false w (Named l m) refl (ap simpleLabelOf i ∙ e)
+
+  one-named : (namedOf true text n ≡ none) ⊎ (namedOf false text n ≡ none)
+  one-named = go (nameOf text) refl
+    where
+      rest : (name : Span) (k : ℕ) → nameOf text ≡ Is name k → (x : SimpleLabel) → simpleLabelOf (drop k text) ≡ x → (namedOf true text n ≡ none) ⊎ (namedOf false text n ≡ none)
+      rest name k e (Named l m) f =
+          let z : k + 0 ≡ k = omega arith in
+          inr
+          (named-excluded false text n _ _ _ (parse-rest false text name k (drop k text) _ e refl (rest-all false (drop k text) refl))
+          (whole-excluded (drop k text) l m f _ (ap (λ (i : ℕ). take (length (drop k text)) (drop i text)) z ∙ take-length (drop k text))))
+      rest name k e NoLabel f = inl (named-none true text n (parse-rest true text name k (drop k text) NoTarget e refl (rest-label true (drop k text) NoLabel refl f)))
+
+      go : (x : Name) → nameOf text ≡ x → (namedOf true text n ≡ none) ⊎ (namedOf false text n ≡ none)
+      go (Is name k) e = rest name k e _ refl
+      go NoName e = inl (named-none true text n (parse-none true text e))
+
+  one-anonymous : (anonymousOf true text n ≡ none) ⊎ (anonymousOf false text n ≡ none)
+  one-anonymous = go (simpleLabelOf text) refl
+    where
+      go : (x : SimpleLabel) → simpleLabelOf text ≡ x → (anonymousOf true text n ≡ none) ⊎ (anonymousOf false text n ≡ none)
+      go (Named l m) e = inr (anonymous-excluded false text n _ (rest-all false text refl) (whole-excluded text l m e _ (take-length text)))
+      go NoLabel e = inl (anonymous-none true text n (rest-label true text NoLabel refl e))
+
+one-target : (s : List ℕ) → (label2targetOf true s ≡ none) ⊎ (label2targetOf false s ≡ none)
+one-target s = named (blockOf dots s) refl
+  where
+    is : (label : Bool) (x y : BlockText) → blockOf dots s ≡ x → blockOf strokes s ≡ y → targetIn label x y ≡ none → label2targetOf label s ≡ none
+    is label x y e f g =
+        sym (target-is label s)
+        ∙ ap (λ (b : BlockText). targetIn label b (blockOf strokes s)) e
+        ∙ ap (targetIn label x) f
+        ∙ g
+
+    anonymous : blockOf dots s ≡ no-block → (y : BlockText) → blockOf strokes s ≡ y → (label2targetOf true s ≡ none) ⊎ (label2targetOf false s ≡ none)
+    anonymous e (block text n) f = ⊎-elim (λ g. inl (is true no-block (block text n) e f g)) (λ g. inr (is false no-block (block text n) e f g)) (one-anonymous text n)
+    anonymous e no-block f = inl (is true no-block no-block e f refl)
+    anonymous e no-scratch f = absurd (block-scratch strokes s f)
+
+    named : (x : BlockText) → blockOf dots s ≡ x → (label2targetOf true s ≡ none) ⊎ (label2targetOf false s ≡ none)
+    named (block text n) e = ⊎-elim (λ g. inl (is true (block text n) _ e refl g)) (λ g. inr (is false (block text n) _ e refl g)) (one-named text n)
+    named no-block e = anonymous e _ refl
+    named no-scratch e = absurd (block-scratch dots s e)
+
+-- a link is not none
+link-none : (x y : List ℕ) (n : ℕ) → link x y n ≡ none → ⊥
+link-none x y n e = false≢true (ap empty e)
+  where
+    empty : Link → Bool
+    empty (link u v m) = false
+    empty none = true
+    empty no-room = true
+
+pub alias-or-destination : (s x y : List ℕ) (n : ℕ) → label2labelOf s ≡ link x y n → label2destOf s ≡ none
+unfolding label2labelOf label2destOf
+alias-or-destination s x y n e = ⊎-elim (λ f. absurd (link-none x y n (sym e ∙ f))) (λ f. f) (one-target s)
+
+pub destination-or-alias : (s x y : List ℕ) (n : ℕ) → label2destOf s ≡ link x y n → label2labelOf s ≡ none
+unfolding label2labelOf label2destOf
+destination-or-alias s x y n e = ⊎-elim (λ f. f) (λ f. absurd (link-none x y n (sym e ∙ f))) (one-target s)
+
+-- LF and a tail behind the input.
+module _ (s t : List ℕ) (h : Tail t) (b : Body s) where
+  pub label2target-lf : (label : Bool) → label2targetOf label (s ++ 10 ∷ t) ≡ label2targetOf label s
+  unfolding free isStop
+  label2target-lf label =
+      sym (target-is label (s ++ 10 ∷ t))
+      ∙ ap (λ (x : BlockText). targetIn label x (blockOf strokes (s ++ 10 ∷ t))) (block-lf dots s t refl h b)
+      ∙ ap (targetIn label (blockOf dots s)) (block-lf strokes s t refl h b)
+      ∙ target-is label s
+
+  pub label2dest-lf : label2destOf (s ++ 10 ∷ t) ≡ label2destOf s
+  unfolding label2destOf
+  label2dest-lf = label2target-lf false
+
+  pub label2label-lf : label2labelOf (s ++ 10 ∷ t) ≡ label2labelOf s
+  unfolding label2labelOf
+  label2label-lf = label2target-lf true

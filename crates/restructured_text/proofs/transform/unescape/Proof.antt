@@ -1,0 +1,143 @@
+-- `transform::unescape` meets its contract. The loop's invariant is `At`: i bytes are read and n written, from n on the text is as
+-- it was, and what was written stands before what the rest gives. One law of the definition at i for each way through the body.
+-- The measure is what is left to read.
+-- Assumes nothing.
+use Prim.Native.Nat.{_-_}
+use mathlib.Core.Path.{sym, _∙_}
+use native.Mathlib.Omega.{arith}
+use lib.ListN.{length}
+use borrow.Author.Needs.{needs}
+use Rattle.restructured_text.specs.Transform.{unescapedOf}
+use Rattle.restructured_text.proofs.TransformLaws.{At, start, skip, write, ends-bad, ends-well, at-end, at-alone, at-other, at-wrong, at-byte, at-nothing}
+use Rattle.restructured_text.proofs.transform.unescape.Statement.{statement}
+use Rattle.restructured_text.proofs.transform.unescape.Tie as tie
+
+-- `transform::unescape` meets its contract. The loop's invariant is `At`: i bytes are read and n written, from n on the text is as
+-- it was, and what was written stands before what the rest gives. One law of the definition at i for each way through the body.
+-- The measure is what is left to read.
+-- Assumes nothing.
+
+abbrev Inv-loop : tie.InvT-loop
+Inv-loop d₀ keep i₀ n₀ d i n = At (unescapedOf keep) d₀ d i n
+
+abbrev μ-loop : tie.MeasureT-loop
+μ-loop d₀ keep i₀ n₀ d i n = length d₀ - i
+
+loop-holds : tie.Need-loop-holds Inv-loop μ-loop
+loop-holds c = start _ _
+
+slice-read-b : tie.Need-slice-read-b Inv-loop μ-loop
+slice-read-b c = search needs
+
+add-j : tie.Need-add-j Inv-loop μ-loop
+add-j c = search needs
+
+same-length : tie.Need-same-length Inv-loop μ-loop
+same-length c = c .before .before .before .before .loop .inv .len
+
+returns : tie.Need-returns Inv-loop μ-loop
+returns c =
+    let l = c .before .before .before .before .loop in
+    ends-bad (l .inv) (at-alone _ _ _ (l .d) (l .i) (omega arith) (omega arith) (c .before .if1 .taken))
+
+slice-read-e : tie.Need-slice-read-e Inv-loop μ-loop
+slice-read-e c = search needs
+
+is-escapable-requires : tie.Need-is-escapable-requires Inv-loop μ-loop
+is-escapable-requires c κs = search needs
+
+gives-itself-requires : tie.Need-gives-itself-requires Inv-loop μ-loop
+gives-itself-requires c κs = search needs
+
+slice-write-d : tie.Need-slice-write-d Inv-loop μ-loop
+slice-write-d c = search needs
+
+add-n : tie.Need-add-n Inv-loop μ-loop
+add-n c = search needs
+
+add-i : tie.Need-add-i Inv-loop μ-loop
+add-i c = search needs
+
+loop-less : tie.Need-loop-less Inv-loop μ-loop
+loop-less c = search needs
+
+loop-again : tie.Need-loop-again Inv-loop μ-loop
+loop-again c =
+    let l = c .before .before .before .before .before .before .before .before .before .loop in
+    write (l .inv) 2 _ (omega arith) (omega arith) (at-byte _ (l .d) (l .i) (omega arith) (c .before .before .before .before .before .before .if1 .taken) (sym (c .before .before .before .is-escapable .ensures) ∙ c .before .before .if3 .taken) (sym (c .before .gives-itself .ensures) ∙ c .if4 .taken))
+
+add-i-2 : tie.Need-add-i-2 Inv-loop μ-loop
+add-i-2 c = search needs
+
+loop-less-2 : tie.Need-loop-less-2 Inv-loop μ-loop
+loop-less-2 c = search needs
+
+loop-again-2 : tie.Need-loop-again-2 Inv-loop μ-loop
+loop-again-2 c =
+    let l = c .before .before .before .before .before .before .before .before .before .loop in
+    skip (l .inv) 2 (omega arith) (at-nothing _ (l .d) (l .i) (omega arith) (c .before .before .before .before .before .before .if1 .taken) (sym (c .before .before .before .is-escapable .ensures) ∙ c .before .before .if3 .taken) (sym (c .before .gives-itself .ensures) ∙ c .if4 .left))
+
+same-length-2 : tie.Need-same-length-2 Inv-loop μ-loop
+same-length-2 c = c .before .before .before .before .before .before .before .loop .inv .len
+
+returns-2 : tie.Need-returns-2 Inv-loop μ-loop
+returns-2 c =
+    let l = c .before .before .before .before .before .before .before .loop in
+    ends-bad (l .inv) (at-wrong _ _ _ (l .d) (l .i) (omega arith) (c .before .before .before .before .if1 .taken) (sym (c .before .is-escapable .ensures) ∙ c .if3 .left))
+
+slice-write-d-2 : tie.Need-slice-write-d-2 Inv-loop μ-loop
+slice-write-d-2 c = search needs
+
+add-n-2 : tie.Need-add-n-2 Inv-loop μ-loop
+add-n-2 c = search needs
+
+add-i-3 : tie.Need-add-i-3 Inv-loop μ-loop
+add-i-3 c = search needs
+
+loop-less-3 : tie.Need-loop-less-3 Inv-loop μ-loop
+loop-less-3 c = search needs
+
+loop-again-3 : tie.Need-loop-again-3 Inv-loop μ-loop
+loop-again-3 c =
+    let l = c .before .before .before .loop in
+    write (l .inv) 1 _ (omega arith) (omega arith) (at-other _ _ _ (l .d) (l .i) (omega arith) (c .if1 .left))
+
+same-length-3 : tie.Need-same-length-3 Inv-loop μ-loop
+same-length-3 c = c .before .loop .inv .len
+
+returns-3 : tie.Need-returns-3 Inv-loop μ-loop
+returns-3 c =
+    let l = c .before .loop in
+    ends-well (l .inv) (at-end _ _ _ (l .d) (l .i) (omega arith))
+
+pub unescape-spec : {M : Type 1} → statement M
+unescape-spec =
+    tie.close
+    (tie.spec
+    Inv-loop
+    μ-loop
+    loop-holds
+    slice-read-b
+    add-j
+    same-length
+    returns
+    slice-read-e
+    is-escapable-requires
+    gives-itself-requires
+    slice-write-d
+    add-n
+    add-i
+    loop-less
+    loop-again
+    add-i-2
+    loop-less-2
+    loop-again-2
+    same-length-2
+    returns-2
+    slice-write-d-2
+    add-n-2
+    add-i-3
+    loop-less-3
+    loop-again-3
+    same-length-3
+    returns-3)

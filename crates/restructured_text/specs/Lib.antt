@@ -1,0 +1,39 @@
+-- What the RST parsers promise: document 01, "`restructured_text.rs`".
+--
+-- Each definition, and the public function whose contract is an equation with it, on every input and every scratch:
+--   Transform    textOf               transform::rst_escaped_link_text_transform         an escaped character for itself
+--                destinationOf        transform::rst_escaped_link_destination_transform  blanks dropped, then unescaped
+--   Text2target  text2targetOf        text2target::rst_parse_text2target                 a text and a target in brackets, raw
+--   Label        simpleLabelOf        label::rst_parse_simple_label                      a simple label, raw
+--                parseText2labelOf    label::rst_parse_text2label                        a reference, raw
+--   Inline       text2destOf          inline::rst_text2dest                              an anonymous embedded link
+--                textLabel2destOf     inline::rst_text_label2dest                        a named embedded link
+--                text2labelOf         inline::rst_text2label                             a reference
+--   Block        blockOf              block::rst_explicit_markup_block                   a block's text
+--   Target       parseLabel2targetOf  target::rst_parse_label2target                     name and target in that text, raw
+--                label2targetOf       target::rst_label2target                           a target block
+--                label2destOf         target::rst_label2dest                             one with a destination
+--                label2labelOf        target::rst_label2label                            one with an alias
+-- Delimited says what a part between two tags is. Strings says what an answer means with the scratch as the parser left it, and
+-- that a scratch as long as the input is enough and is asked for; the strings then end within as many bytes of it as are consumed
+-- (Ends, part of each contract).
+--
+-- Laws, proved in the file of proofs/ that is named, for the layers above:
+--   consumed     at least one byte and at most all of the input, spans inside, strings no longer than that: Text2targetLaws
+--                text2target-apart; LabelLaws simple-standing, reference-placed; InlineLaws text2dest-consumed,
+--                text-label2dest-consumed, text2label-consumed; BlockLaws block-consumed; TargetLaws parse-apart,
+--                label2target-consumed, label2dest-consumed, label2label-consumed; TransformLaws text-le, destination-le
+--   scratch      no definition says that there is no room: InlineLaws text2dest-room, text-label2dest-room, text2label-room;
+--                BlockLaws block-scratch; TargetLaws label2target-room, label2dest-room, label2label-room
+--   one of two   a block is no alias and destination at once: TargetLaws alias-or-destination, destination-or-alias
+--   appending    on s ++ 10 ∷ t, for `Tail t`: Text2targetLaws text2target-lf; LabelLaws simple-lf, reference-lf; InlineLaws
+--                text2dest-lf, text-label2dest-lf, text2label-lf; for `Tail t` and `Body s`: BlockLaws block-lf; TargetLaws
+--                label2target-lf, label2dest-lf, label2label-lf
+pub mod Transform
+pub mod Delimited
+pub mod Text2target
+pub mod Label
+pub mod Strings
+pub mod Inline
+pub mod Block
+pub mod Target

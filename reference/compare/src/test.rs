@@ -1,0 +1,97 @@
+//! Tests of many inputs each, and their count.
+
+use driver::parsers::Parsed;
+use driver::pieces::Answer;
+use std::fmt::Debug;
+
+/// What both sides answer.
+pub trait Answered: PartialEq + Debug {
+    fn is_accepted(&self) -> bool;
+}
+
+impl Answered for Answer {
+    fn is_accepted(&self) -> bool {
+        self.is_some()
+    }
+}
+
+impl Answered for Parsed<'_> {
+    fn is_accepted(&self) -> bool {
+        matches!(self, Parsed::Found { .. })
+    }
+}
+
+/// The inputs tried, how many the Rust accepts and, of those that differ, how
+/// many and the shortest.
+pub struct Test {
+    name: String,
+    tried: u64,
+    accepted: u64,
+    differ: u64,
+    shortest: Option<Difference>,
+}
+
+struct Difference {
+    input: Vec<u8>,
+    /// What else was asked, and both answers.
+    said: String,
+}
+
+impl Test {
+    pub fn new(name: &str) -> Test {
+        Test {
+            name: name.to_string(),
+            tried: 0,
+            accepted: 0,
+            differ: 0,
+            shortest: None,
+        }
+    }
+
+    /// Holds a proved answer to the Rust's. The parameter is what was asked
+    /// besides the input.
+    pub fn hold<T: Answered>(&mut self, input: &[u8], parameter: usize, proved: T, rust: T) {
+        self.tried += 1;
+        self.accepted += u64::from(rust.is_accepted());
+        self.also(input, parameter, proved, rust);
+    }
+
+    /// Holds one more answer on an input that is counted already.
+    pub fn also<T: Answered>(&mut self, input: &[u8], parameter: usize, proved: T, rust: T) {
+        if proved == rust {
+            return;
+        }
+        self.differ += 1;
+        let shorter = |known: &Difference| input.len() < known.input.len();
+        if self.shortest.as_ref().is_none_or(shorter) {
+            self.shortest = Some(Difference {
+                input: input.to_vec(),
+                said: format!("parameter {parameter}: proved {proved:?}, Rust {rust:?}"),
+            });
+        }
+    }
+}
+
+/// The tests so far, passed and failed.
+#[derive(Default)]
+pub struct Count {
+    pub passed: u64,
+    pub failed: u64,
+}
+
+impl Count {
+    pub fn end(&mut self, test: Test) {
+        println!(
+            "{}: {} inputs, {} accepted, {} differ",
+            test.name, test.tried, test.accepted, test.differ
+        );
+        if let Some(d) = &test.shortest {
+            println!("  {:02X?}, {}", d.input, d.said);
+        }
+        if test.differ == 0 && test.tried > 0 {
+            self.passed += 1;
+        } else {
+            self.failed += 1;
+        }
+    }
+}
