@@ -102,6 +102,14 @@ module _ (indent s : List ℕ) (k : ℕ) (e : lineEndingOf s ≡ Taken k) where
     unfolding cutOf
     cut-taken g = simp (e, rw part-from at f, sym behind ∙ g, cutOf)
 
+-- two tags, one behind the other, behind the k bytes of a line's end are within the text
+pub tags-fit : (p q s : List ℕ) (k : ℕ) → lineEndingOf s ≡ Taken k → startsWith p (from s k) ≡ true → startsWith q (from (from s k) (length p)) ≡ true → k + length p + length q ≤ length s
+tags-fit p q s k e f g =
+    let a = starts-le p (from s k) f in
+    let b = starts-le q (from (from s k) (length p)) g in
+    omega
+    (arith, line-ending-le s k e, ap length (part-from s k), length-drop k s, ap length (part-from (from s k) (length p)), length-drop (length p) (from s k))
+
 -- What is cut, if anything is, is more than three bytes and at most k.
 abbrev CutIn : ℕ → Part → Type 0
 CutIn k (Taken a) = (3 < a) × (a ≤ k)

@@ -180,10 +180,14 @@ destinations = refl
 abbrev letters : ℕ → List ℕ
 letters n = replicate n 0x61
 
--- n times U+00E9
+-- U+00E9, and an escaped colon, for each byte of a list
 abbrev accents : List ℕ → List ℕ
 accents [] = []
 accents (b ∷ s) = 0xC3 ∷ 0xA9 ∷ accents s
+
+abbrev escapes : List ℕ → List ℕ
+escapes [] = []
+escapes (b ∷ s) = 0x5C ∷ 0x3A ∷ escapes s
 
 limits :
     map simpleLabelOf
@@ -193,12 +197,16 @@ limits :
     ∷ (accents (letters 500) ++ ascii "_")
     ∷ (ascii "`" ++ letters 999 ++ ascii "`_")
     ∷ (ascii "`" ++ letters 1000 ++ ascii "`_")
+    ∷ (ascii "`" ++ escapes (letters 499) ++ ascii "`_")
+    ∷ (ascii "`" ++ escapes (letters 500) ++ ascii "`_")
     ∷ [])
     ≡ Named (record { start = 0; len = 999 }) 1000
     ∷ NoLabel
     ∷ Named (record { start = 0; len = 999 }) 1000
     ∷ NoLabel
     ∷ Named (record { start = 1; len = 999 }) 1002
+    ∷ NoLabel
+    ∷ Named (record { start = 1; len = 998 }) 1001
     ∷ NoLabel
     ∷ []
 unfolding simpleLabelOf rawLabelOf wordLabelOf delimitedOf endsWith startsWith escapedOf taking isStop isEscapable run charOf isPair wordOf isWord isAsciiWord inRanges wordRanges

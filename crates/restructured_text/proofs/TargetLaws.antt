@@ -55,14 +55,17 @@ module _ (s : List ℕ) where
   unfolding nameOf
   name-quoted n e = simp (e, nameOf)
 
-  module _ (e : quotedIn s ≡ Refused) where
-    pub name-plain : (n : ℕ) → plainIn s ≡ Taken n → nameOf s ≡ Is (record { start = 1; len = n }) (n + 3)
-    unfolding nameOf plainNameOf
-    name-plain n f = simp (e, f, nameOf, plainNameOf)
+  pub plain-named : (n : ℕ) → plainIn s ≡ Taken n → plainNameOf s ≡ Is (record { start = 1; len = n }) (n + 3)
+  unfolding plainNameOf
+  plain-named n f = simp (f, plainNameOf)
 
-    pub name-none : plainIn s ≡ Refused → nameOf s ≡ NoName
-    unfolding nameOf plainNameOf
-    name-none f = simp (e, f, nameOf, plainNameOf)
+  pub plain-none : plainIn s ≡ Refused → plainNameOf s ≡ NoName
+  unfolding plainNameOf
+  plain-none f = simp (f, plainNameOf)
+
+  pub name-plain : quotedIn s ≡ Refused → nameOf s ≡ plainNameOf s
+  unfolding nameOf
+  name-plain e = simp (e, nameOf)
 
 -- what they take lies within the text
 module _ (s : List ℕ) (n : ℕ) where
@@ -109,8 +112,8 @@ name-in : (s : List ℕ) → NameIn (length s) (nameOf s)
 name-in s = quoted (quotedIn s) refl
   where
     plain : quotedIn s ≡ Refused → (x : Part) → plainIn s ≡ x → NameIn (length s) (nameOf s)
-    plain e (Taken n) f = subst⁻¹ (NameIn (length s)) (name-plain s e n f) (omega arith, omega arith, plain-within s n f)
-    plain e Refused f = subst⁻¹ (NameIn (length s)) (name-none s e f) tt
+    plain e (Taken n) f = subst⁻¹ (NameIn (length s)) (name-plain s e ∙ plain-named s n f) (omega arith, omega arith, plain-within s n f)
+    plain e Refused f = subst⁻¹ (NameIn (length s)) (name-plain s e ∙ plain-none s f) tt
 
     quoted : (x : Part) → quotedIn s ≡ x → NameIn (length s) (nameOf s)
     quoted (Taken n) e = subst⁻¹ (NameIn (length s)) (name-quoted s n e) (omega arith, omega arith, quoted-within s n e)
@@ -314,13 +317,12 @@ joined-within header s d d′ len n h l e = ⊎-elim short enough (lt-or-le (len
         let w = block-consumed header s (take len d′) n (sym (e ∙ lent-enough header s d g)) in
         (omega (arith, w .0, w .1, length-take len d′), omega (arith, w .1))
 
+-- the same, of what the reader answered
+pub block-room : (header s d d′ : List ℕ) (x : Block) (len n : ℕ) → length d′ ≡ length d → blockIn x d′ ≡ lentBlock s d (blockOf header s) → x ≡ Joined len n → 0 < length header → (len < n) × (n ≤ length d′)
+block-room header s d d′ x len n l f e h = joined-within header s d d′ len n h l (sym (ap (λ (b : Block). blockIn b d′) e) ∙ f)
+
 -- What the first reader answered, and left in d′.
 module _ (s d d′ : List ℕ) (x : Block) (l : length d′ ≡ length d) (f : blockIn x d′ ≡ lentBlock s d (blockOf dots s)) where
-  pub named-room : (len n : ℕ) → x ≡ Joined len n → (len ≤ n) × (n ≤ length d′)
-  named-room len n e =
-      let w = joined-within dots s d d′ len n (omega arith) l (sym (ap (λ (b : Block). blockIn b d′) e) ∙ f) in
-      (omega (arith, w .0), w .1)
-
   module _ (label : Bool) where
     first : (y : BlockText) → blockIn x d′ ≡ y → targetIn label y (lentBlock s d (blockOf strokes s)) ≡ lent s d (label2targetOf label s)
     first y e = ap (λ (b : BlockText). targetIn label b (lentBlock s d (blockOf strokes s))) (sym e ∙ f) ∙ target-lent label s d d refl
@@ -333,9 +335,6 @@ module _ (s d d′ : List ℕ) (x : Block) (l : length d′ ≡ length d) (f : b
 
   -- There was no block. What the second reader answered, and left in d″.
   module _ (e : x ≡ NoBlock) (d″ : List ℕ) (y : Block) (g : blockIn y d″ ≡ lentBlock s d′ (blockOf strokes s)) where
-    pub anonymous-room : length d″ ≡ length d′ → (len n : ℕ) → y ≡ Joined len n → (len < n) × (n ≤ length d″)
-    anonymous-room m len n i = joined-within strokes s d′ d″ len n (omega arith) m (sym (ap (λ (b : Block). blockIn b d″) i) ∙ g)
-
     module _ (label : Bool) where
       second : (z : Block) → y ≡ z → anonymousBlockOf label (blockIn z d″) ≡ lent s d (label2targetOf label s)
       second z i =

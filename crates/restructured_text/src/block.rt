@@ -55,8 +55,9 @@ fn line_start(s: &[u8], indent: &[u8]) -> Part
             let t = &s[k..];
             if tag(t, indent) {
                 let a = indent.len();
-                if tag(&t[a..], b"   ") {
-                    return Part::Taken(k + a + 3);
+                let spaces = b"   ";
+                if tag(&t[a..], spaces) {
+                    return Part::Taken(k + a + spaces.len());
                 }
             }
             Part::Refused

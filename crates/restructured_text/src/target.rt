@@ -16,6 +16,7 @@ ghost use Prim.Native.Nat.{_≤_, _<_};
 ghost use lib.ListN.{length, take};
 ghost use Rattle.restructured_text.specs.Strings.{lent, stringsOf, Ends};
 ghost use Rattle.restructured_text.specs.Target.{
+  plainNameOf,
   nameOf,
   restOf,
   excluded,
@@ -39,16 +40,25 @@ pub enum Rest {
     NoTarget,
 }
 
+// A plain name, with its colon and one space.
+fn plain_name(s: &[u8]) -> Name
+    ensures { λ r. ⌜ r ≡ plainNameOf (now (s .entry)) ⌝ }
+{
+    let colon = b": ";
+    match delimited(s, b"_", b':', b':', colon) {
+        Part::Taken(n) => Name::Is(Span { start: 1, len: n }, n + 1 + colon.len()),
+        Part::Refused => Name::NoName,
+    }
+}
+
 // A name in backticks, else a plain one, each with its colon and one space.
 fn target_name(s: &[u8]) -> Name
     ensures { λ r. ⌜ r ≡ nameOf (now (s .entry)) ⌝ }
 {
-    match delimited(s, b"_`", b'`', b'`', b"`: ") {
-        Part::Taken(n) => Name::Is(Span { start: 2, len: n }, n + 5),
-        Part::Refused => match delimited(s, b"_", b':', b':', b": ") {
-            Part::Taken(n) => Name::Is(Span { start: 1, len: n }, n + 3),
-            Part::Refused => Name::NoName,
-        },
+    let colon = b"`: ";
+    match delimited(s, b"_`", b'`', b'`', colon) {
+        Part::Taken(n) => Name::Is(Span { start: 2, len: n }, n + 2 + colon.len()),
+        Part::Refused => plain_name(s),
     }
 }
 

@@ -45,7 +45,7 @@ impl Parsers {
     }
 }
 
-/// A scratch of that length, filled with bytes that no answer has.
+/// A scratch of that length, all zero.
 fn filled(area: &mut [u8], length: usize) -> &mut [u8] {
     area[..length].fill(0);
     &mut area[..length]

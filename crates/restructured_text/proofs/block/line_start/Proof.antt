@@ -5,7 +5,7 @@ use native.Mathlib.Omega.{arith}
 use borrow.Author.Needs.{needs}
 use Rattle.rst_bytes.proofs.LineLaws.{line-ending-le}
 use Rattle.rst_bytes.proofs.TagLaws.{starts-le}
-use Rattle.restructured_text.proofs.BlockLaws.{cut-none, cut-other, cut-short, cut-taken, cut-le}
+use Rattle.restructured_text.proofs.BlockLaws.{tags-fit, cut-none, cut-other, cut-short, cut-taken}
 use Rattle.restructured_text.proofs.block.line_start.Statement.{statement}
 use Rattle.restructured_text.proofs.block.line_start.Tie as tie
 
@@ -28,36 +28,37 @@ tag-requires : tie.Need-tag-requires
 tag-requires c κs = search needs
 
 sub-tag : tie.Need-sub-tag
-sub-tag c = starts-le _ _ (sym (c .before .tag .ensures) ∙ c .if1 .taken)
+sub-tag c = starts-le _ _ (sym (c .before .before .tag .ensures) ∙ c .before .if1 .taken)
 
 part-tag-start : tie.Need-part-tag-start
-part-tag-start c = starts-le _ _ (sym (c .before .tag .ensures) ∙ c .if1 .taken)
+part-tag-start c = starts-le _ _ (sym (c .before .before .tag .ensures) ∙ c .before .if1 .taken)
 
 part-tag-end : tie.Need-part-tag-end
 part-tag-end c = search needs
 
-slice-aggregate-tag : tie.Need-slice-aggregate-tag
-slice-aggregate-tag c = search needs
-
 tag-requires-2 : tie.Need-tag-requires-2
 tag-requires-2 c κs = search needs
 
-add-t20 : tie.Need-add-t20
-add-t20 c =
-    let ends = sym (c .before .before .before .before .before .before .before .before .before .before .line-ending .ensures) ∙ c .before .before .before .before .before .before .before .before .k .given .1 in
-    let there = sym (c .before .before .before .before .before .tag .ensures) ∙ c .before .before .before .before .if1 .taken in
-    omega (arith, cut-le _ _ _ (cut-taken _ _ _ ends there (sym (c .before .tag2 .ensures) ∙ c .if2 .taken)))
-
 add-t21 : tie.Need-add-t21
 add-t21 c =
-    let ends = sym (c .before .before .before .before .before .before .before .before .before .before .line-ending .ensures) ∙ c .before .before .before .before .before .before .before .before .k .given .1 in
-    let there = sym (c .before .before .before .before .before .tag .ensures) ∙ c .before .before .before .before .if1 .taken in
-    omega (arith, cut-le _ _ _ (cut-taken _ _ _ ends there (sym (c .before .tag2 .ensures) ∙ c .if2 .taken)))
+    let s = c .before .before .before .before .before .before .before .before .before .before .before .before .before .before .args .s .now in
+    let ends = sym (c .before .before .before .before .before .before .before .before .before .before .before .line-ending .ensures) ∙ c .before .before .before .before .before .before .before .before .before .k .given .1 in
+    let there = sym (c .before .before .before .before .before .before .tag .ensures) ∙ c .before .before .before .before .before .if1 .taken in
+    let fits = tags-fit _ _ s _ ends there (sym (c .before .tag2 .ensures) ∙ c .if2 .taken) in
+    omega arith
+
+add-t22 : tie.Need-add-t22
+add-t22 c =
+    let s = c .before .before .before .before .before .before .before .before .before .before .before .before .before .before .args .s .now in
+    let ends = sym (c .before .before .before .before .before .before .before .before .before .before .before .line-ending .ensures) ∙ c .before .before .before .before .before .before .before .before .before .k .given .1 in
+    let there = sym (c .before .before .before .before .before .before .tag .ensures) ∙ c .before .before .before .before .before .if1 .taken in
+    let fits = tags-fit _ _ s _ ends there (sym (c .before .tag2 .ensures) ∙ c .if2 .taken) in
+    omega arith
 
 returns : tie.Need-returns
 returns c =
-    let ends = sym (c .before .before .before .before .before .before .before .before .before .before .line-ending .ensures) ∙ c .before .before .before .before .before .before .before .before .k .given .1 in
-    let there = sym (c .before .before .before .before .before .tag .ensures) ∙ c .before .before .before .before .if1 .taken in
+    let ends = sym (c .before .before .before .before .before .before .before .before .before .before .before .line-ending .ensures) ∙ c .before .before .before .before .before .before .before .before .before .k .given .1 in
+    let there = sym (c .before .before .before .before .before .before .tag .ensures) ∙ c .before .before .before .before .before .if1 .taken in
     sym (cut-taken _ _ _ ends there (sym (c .before .tag2 .ensures) ∙ c .if2 .taken))
 
 enum-told : tie.Need-enum-told
@@ -65,8 +66,8 @@ enum-told c = search needs
 
 returns-2 : tie.Need-returns-2
 returns-2 c =
-    let ends = sym (c .before .before .before .before .before .before .before .before .before .before .line-ending .ensures) ∙ c .before .before .before .before .before .before .before .before .k .given .1 in
-    let there = sym (c .before .before .before .before .before .tag .ensures) ∙ c .before .before .before .before .if1 .taken in
+    let ends = sym (c .before .before .before .before .before .before .before .before .before .before .before .line-ending .ensures) ∙ c .before .before .before .before .before .before .before .before .before .k .given .1 in
+    let there = sym (c .before .before .before .before .before .before .tag .ensures) ∙ c .before .before .before .before .before .if1 .taken in
     sym (cut-short _ _ _ ends there (sym (c .before .tag2 .ensures) ∙ c .if2 .left))
 
 returns-3 : tie.Need-returns-3
@@ -90,10 +91,9 @@ line-start-spec =
     sub-tag
     part-tag-start
     part-tag-end
-    slice-aggregate-tag
     tag-requires-2
-    add-t20
     add-t21
+    add-t22
     returns
     enum-told
     returns-2

@@ -3,8 +3,9 @@
 -- `named_target` and `anonymous_target` ask.
 -- Assumes nothing.
 use mathlib.Core.Path.{_∙_}
+use native.Mathlib.Omega.{arith}
 use borrow.Author.Needs.{needs}
-use Rattle.restructured_text.proofs.TargetLaws.{named-room, target-named, target-no-room, anonymous-room, target-anonymous, target-none, target-no-room₂}
+use Rattle.restructured_text.proofs.TargetLaws.{block-room, target-named, target-no-room, target-anonymous, target-none, target-no-room₂}
 use Rattle.restructured_text.proofs.target.rst_label2target.Statement.{statement}
 use Rattle.restructured_text.proofs.target.rst_label2target.Tie as tie
 
@@ -20,7 +21,8 @@ enum-known-len c = search needs
 named-target-requires : tie.Need-named-target-requires
 named-target-requires c κs =
     let s = c .before .before .before .before .before .before .before .before .before .before .before .args in
-    named-room (s .s .now) (s .scratch .now) _ _ (c .before .before .before .before .before .scratch .given) (c .before .before .before .before .before .before .rst-explicit-markup-block .ensures) _ _ (c .before .before .len .given .1)
+    let w = block-room _ (s .s .now) (s .scratch .now) _ _ _ _ (c .before .before .before .before .before .scratch .given) (c .before .before .before .before .before .before .rst-explicit-markup-block .ensures) (c .before .before .len .given .1) (omega arith) in
+    (omega arith, w .1)
 
 enum-told : tie.Need-enum-told
 enum-told c = search needs
@@ -37,9 +39,7 @@ enum-known-len-2 c = search needs
 anonymous-target-requires : tie.Need-anonymous-target-requires
 anonymous-target-requires c κs =
     let s = c .before .before .before .before .before .before .before .before .before .before .before .before .before .before .before .before .before .before .args in
-    let x = c .before .before .before .before .before .before .before .before .before .before .before .before .before .rst-explicit-markup-block in
-    let y = c .before .before .before .before .before .before .rst-explicit-markup-block2 in
-    anonymous-room (s .s .now) (s .scratch .now) _ _ (c .before .before .before .before .before .before .before .before .before .before .before .before .scratch .given) (x .ensures) (c .before .before .before .before .before .before .before .before .before .enum-told .given .1) _ _ (y .ensures) (c .before .before .before .before .before .scratch3 .given) _ _ (c .before .before .len2 .given .1)
+    block-room _ (s .s .now) (c .before .before .before .before .before .before .before .before .before .before .before .before .before .rst-explicit-markup-block .last .1 .1 .0) _ _ _ _ (c .before .before .before .before .before .scratch3 .given) (c .before .before .before .before .before .before .rst-explicit-markup-block2 .ensures) (c .before .before .len2 .given .1) (omega arith)
 
 enum-told-2 : tie.Need-enum-told-2
 enum-told-2 c = search needs

@@ -5,9 +5,6 @@ use Rattle.restructured_text.specs.Transform.{gives}
 use Rattle.restructured_text.proofs.transform.gives_itself.Statement.{statement}
 use Rattle.restructured_text.proofs.transform.gives_itself.Tie as tie
 
--- `transform::gives_itself` meets its contract: the definition has the same test.
--- Assumes nothing.
-
 returns : tie.Need-returns
 unfolding gives
 returns c = simp (eq-eqb _ _ (c .if1 .taken), gives)

@@ -7,10 +7,6 @@ use Rattle.restructured_text.specs.Transform.{isDestinationEscapable}
 use Rattle.restructured_text.proofs.transform.is_destination_escapable.Statement.{statement}
 use Rattle.restructured_text.proofs.transform.is_destination_escapable.Tie as tie
 
--- `transform::is_destination_escapable` meets its contract: each way out compares with one byte of the set, and the bytes before it
--- were others.
--- Assumes nothing.
-
 returns : tie.Need-returns
 unfolding isDestinationEscapable
 returns c = simp (eq-eqb _ _ (c .if1 .taken))

@@ -8,10 +8,6 @@ use Rattle.restructured_text.proofs.TransformLaws.{kept-within, destina
 use Rattle.restructured_text.proofs.transform.rst_escaped_link_destination_transform.Statement.{statement}
 use Rattle.restructured_text.proofs.transform.rst_escaped_link_destination_transform.Tie as tie
 
--- `transform::rst_escaped_link_destination_transform` meets its contract: whitespace is dropped, and then the part that was written is
--- unescaped in its place; or what `remove_whitespace` refuses is refused.
--- Assumes nothing.
-
 remove-whitespace-requires : tie.Need-remove-whitespace-requires
 remove-whitespace-requires c κs = search needs
 

@@ -5,9 +5,6 @@ use Rattle.restructured_text.specs.Transform.{textOf}
 use Rattle.restructured_text.proofs.transform.rst_escaped_link_text_transform.Statement.{statement}
 use Rattle.restructured_text.proofs.transform.rst_escaped_link_text_transform.Tie as tie
 
--- `transform::rst_escaped_link_text_transform` meets its contract: it is `unescape` that drops spaces, by definition.
--- Assumes nothing.
-
 unescape-requires : tie.Need-unescape-requires
 unescape-requires c κs = search needs
 

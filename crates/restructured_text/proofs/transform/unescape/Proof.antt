@@ -12,11 +12,6 @@ use Rattle.restructured_text.proofs.TransformLaws.{At, start, skip, wri
 use Rattle.restructured_text.proofs.transform.unescape.Statement.{statement}
 use Rattle.restructured_text.proofs.transform.unescape.Tie as tie
 
--- `transform::unescape` meets its contract. The loop's invariant is `At`: i bytes are read and n written, from n on the text is as
--- it was, and what was written stands before what the rest gives. One law of the definition at i for each way through the body.
--- The measure is what is left to read.
--- Assumes nothing.
-
 abbrev Inv-loop : tie.InvT-loop
 Inv-loop d₀ keep i₀ n₀ d i n = At (unescapedOf keep) d₀ d i n
 
