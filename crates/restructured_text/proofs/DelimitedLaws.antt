@@ -11,7 +11,7 @@ use mathlib.Core.Logic.{_⊎_, ⊎-elim}
 use lib.Dec.{leb}
 use lib.ListN.{length, drop, length-drop}
 use lib.Seq.{drop-append-le}
-use borrow.Author.Tests.{le-leb, lt-leb, leb-true}
+use borrow.Author.Tests.{ne-eqb, le-leb, lt-leb, leb-true}
 use Rattle.rst_bytes.specs.Appending.{free}
 use Rattle.rst_bytes.specs.Escaped.{escapedOf, isStop}
 use Rattle.rst_bytes.specs.Tag.{startsWith}
@@ -19,7 +19,7 @@ use Rattle.rst_bytes.specs.declared.Part.{Part}
 use Rattle.rst_bytes.specs.declared.Part.the-variants.{Taken, Refused}
 use Rattle.rst_bytes.proofs.Lists.{drop-end}
 use Rattle.rst_bytes.proofs.TestLaws.{lt-or-le}
-use Rattle.rst_bytes.proofs.EscapedLaws.{taken-le, refused-lf, taken-lf, open-lf}
+use Rattle.rst_bytes.proofs.EscapedLaws.{refused-taken, taken-le, refused-lf, taken-lf, open-lf}
 use Rattle.rst_bytes.proofs.TagLaws.{starts-le, starts-lf}
 use Rattle.restructured_text.specs.Delimited.{delimitedOf, endsWith, closing, backtickedOf}
 
@@ -49,14 +49,7 @@ pub record Delimited (l : List ℕ) (p q : ℕ) (r s : List ℕ) (n : ℕ) : Typ
   pub inner : escapedOf p q (drop (length l) s) ≡ Taken n
   pub ends : startsWith r (drop n (drop (length l) s)) ≡ true
 
--- a part is refused or taken, and taken in one way
-pub refused-taken : (n : ℕ) → Refused ≡ Taken n → ⊥
-refused-taken n e = false≢true (ap taken e)
-  where
-    taken : Part → Bool
-    taken (Taken m) = true
-    taken Refused = false
-
+-- a part is taken in one way
 pub taken-is : (m n : ℕ) → Taken m ≡ Taken n → m ≡ n
 taken-is m n e = ap count e
   where
@@ -64,7 +57,8 @@ taken-is m n e = ap count e
     count (Taken k) = k
     count Refused = m
 
-delimited-is : (l : List ℕ) (p q : ℕ) (r s : List ℕ) (n : ℕ) → delimitedOf l p q r s ≡ Taken n → Delimited l p q r s n
+-- and it has its tags
+pub delimited-is : (l : List ℕ) (p q : ℕ) (r s : List ℕ) (n : ℕ) → delimitedOf l p q r s ≡ Taken n → Delimited l p q r s n
 delimited-is l p q r s n e = begins (startsWith l s) refl
   where
     ends : (m : ℕ) → startsWith l s ≡ true → escapedOf p q (drop (length l) s) ≡ Taken m → (x : Bool) → startsWith r (drop m (drop (length l) s)) ≡ x → Delimited l p q r s n
@@ -180,6 +174,11 @@ pub backticked-within : (anonym : Bool) (s : List ℕ) (n : ℕ) → backtickedO
 backticked-within anonym s n e =
     let w = delimited-within (0x60 ∷ []) 0x60 0x60 (closing anonym) s n e in
     omega arith
+
+-- another byte than a backtick begins none
+pub backticked-other : (anonym : Bool) (b : ℕ) (s : List ℕ) → (b ≡ 0x60 → ⊥) → backtickedOf anonym (b ∷ s) ≡ Refused
+unfolding startsWith
+backticked-other anonym b s h = delimited-none (0x60 ∷ []) 0x60 0x60 (closing anonym) (b ∷ s) (simp (ne-eqb b 0x60 h, startsWith))
 
 -- a tail without a backtick keeps a backticked run
 pub backticked-lf : (anonym : Bool) (s t : List ℕ) → free 0x60 0x60 t ≡ true → backtickedOf anonym (s ++ 10 ∷ t) ≡ backtickedOf anonym s

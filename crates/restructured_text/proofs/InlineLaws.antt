@@ -1,5 +1,6 @@
 -- The laws of `specs/Inline.antt`: the strings of an inline form by the raw parts that were copied to a scratch; how many bytes are
--- consumed, and how long the strings are; that there is always room; and that LF and a tail behind the input change nothing.
+-- consumed, and how long the strings are; that there is always room; that nothing is found where no backticked run begins; and that
+-- LF and a tail behind the input change nothing.
 -- Assumes nothing.
 use Prim.Native.Nat.{ℕ, _+_, _<_, _≤_}
 use native.Mathlib.Omega.{arith}
@@ -10,16 +11,18 @@ use mathlib.Core.Logic.{_⊎_, inl, inr}
 use lib.ListN.{length, drop, take}
 use lib.Seq.{take-length}
 use Rattle.rst_bytes.specs.Appending.{Tail}
+use Rattle.rst_bytes.specs.declared.Part.the-variants.{Refused}
 use Rattle.restructured_text.specs.declared.Span.{Span}
 use Rattle.restructured_text.specs.declared.Spans.{Spans}
 use Rattle.restructured_text.specs.declared.Spans.the-variants.{Parsed, Nothing}
 use Rattle.restructured_text.specs.Strings.{Link, link, none, no-room, linked, lent}
+use Rattle.restructured_text.specs.Delimited.{backtickedOf}
 use Rattle.restructured_text.specs.Text2target.{text2targetOf}
 use Rattle.restructured_text.specs.Label.{parseText2labelOf}
 use Rattle.restructured_text.specs.Inline.{finishedOf, embeddedOf, text2destOf, textLabel2destOf, text2labelOf}
 use Rattle.restructured_text.proofs.StringsLaws.{none-link, none-room, linked-append, linked-front, linked-le, linked-room, lent-enough}
-use Rattle.restructured_text.proofs.Text2targetLaws.{Apart, text2target-apart, text2target-lf}
-use Rattle.restructured_text.proofs.LabelLaws.{Placed, reference-placed, reference-lf}
+use Rattle.restructured_text.proofs.Text2targetLaws.{form-none, Apart, text2target-apart, text2target-lf}
+use Rattle.restructured_text.proofs.LabelLaws.{Placed, reference-refused, reference-placed, reference-lf}
 
 -- Two spans within the n bytes, at least one, that are consumed of a text of `size` bytes.
 abbrev pub Within : ℕ → Spans → Type 0
@@ -122,6 +125,20 @@ text-label2dest-room s e = finished-room true s (text2targetOf false false s) e
 pub text2label-room : (s : List ℕ) → text2labelOf s ≡ no-room → ⊥
 unfolding text2labelOf
 text2label-room s e = finished-room false s (parseText2labelOf s) e
+
+-- Nothing is found where no backticked run begins.
+pub text2dest-refused : (s : List ℕ) → backtickedOf true s ≡ Refused → text2destOf s ≡ none
+unfolding text2destOf
+text2dest-refused s e = ap (finishedOf true s) (form-none true false s e)
+
+pub text-label2dest-refused : (s : List ℕ) → backtickedOf false s ≡ Refused → textLabel2destOf s ≡ none
+unfolding textLabel2destOf
+text-label2dest-refused s e = ap (finishedOf true s) (form-none false false s e)
+
+-- a word may be a reference too, but none begins with a backtick
+pub text2label-refused : (r : List ℕ) → backtickedOf false (0x60 ∷ r) ≡ Refused → text2labelOf (0x60 ∷ r) ≡ none
+unfolding text2labelOf
+text2label-refused r e = ap (finishedOf false (0x60 ∷ r)) (reference-refused r e)
 
 -- LF and a tail behind the input.
 module _ (s t : List ℕ) (h : Tail t) where

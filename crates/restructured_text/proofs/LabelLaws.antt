@@ -13,7 +13,8 @@ use lib.Seq.{length-take-le, take-append-le, drop-append-le}
 use borrow.Author.Tests.{eq-eqb, ne-eqb, eqb-true, eqb-false, le-leb, lt-leb, leb-true, leb-false, lt-ltb, le-ltb, ltb-true, ltb-false}
 use Rattle.rst_bytes.specs.Appending.{free}
 use Rattle.rst_bytes.specs.Tag.{startsWith}
-use Rattle.rst_bytes.specs.Word.{wordOf}
+use Rattle.rst_bytes.specs.Domain.{charOf, run}
+use Rattle.rst_bytes.specs.Word.{isAsciiWord, isWord, inRanges, wordRanges, wordOf}
 use Rattle.rst_bytes.specs.declared.Part.{Part}
 use Rattle.rst_bytes.specs.declared.Part.the-variants.{Taken, Refused}
 use Rattle.rst_bytes.proofs.TagLaws.{starts-le}
@@ -28,7 +29,7 @@ use Rattle.restructured_text.specs.Delimited.{endsWith, backtickedOf}
 use Rattle.restructured_text.specs.Text2target.{text2targetOf}
 use Rattle.restructured_text.specs.Label.{runLabelOf, wordLabelOf, rawLabelOf, labelLenMax, simpleLabelOf, bothOf, formOf, parseText2labelOf}
 use Rattle.restructured_text.proofs.DelimitedLaws.{ends-le, backticked-within, backticked-lf, starts-underscore}
-use Rattle.restructured_text.proofs.Text2targetLaws.{Apart, text2target-apart, text2target-lf}
+use Rattle.restructured_text.proofs.Text2targetLaws.{form-none, Apart, text2target-apart, text2target-lf}
 
 -- A run of word characters, by the code's tests: it has w bytes, which are r.
 module _ (s r : List ℕ) (w : ℕ) (iw : w ≡ wordOf s) (ir : r ≡ take w s) where
@@ -60,6 +61,11 @@ raw-quoted s n e = simp (e, rawLabelOf)
 pub raw-word : (s : List ℕ) → backtickedOf false s ≡ Refused → rawLabelOf s ≡ wordLabelOf s
 unfolding rawLabelOf
 raw-word s e = simp (e, rawLabelOf)
+
+-- a backtick is no word character
+word-backtick : (r : List ℕ) → wordLabelOf (0x60 ∷ r) ≡ NoLabel
+unfolding wordLabelOf wordOf run charOf isWord isAsciiWord inRanges wordRanges endsWith
+word-backtick r = refl
 
 -- A simple label, by the length of the raw one.
 pub simple-none : (s : List ℕ) → rawLabelOf s ≡ NoLabel → simpleLabelOf s ≡ NoLabel
@@ -101,6 +107,11 @@ module _ (s v : List ℕ) (a b : Span) (n : ℕ) (e : formOf s ≡ Parsed a b n)
   pub reference-named : startsWith (0x5F ∷ []) v ≡ false → parseText2labelOf s ≡ Parsed a b n
   unfolding parseText2labelOf
   reference-named f = simp (e, ← iv, f, parseText2labelOf)
+
+-- a backtick that begins no backticked run begins no reference
+pub reference-refused : (r : List ℕ) → backtickedOf false (0x60 ∷ r) ≡ Refused → parseText2labelOf (0x60 ∷ r) ≡ Nothing
+reference-refused r e =
+    reference-none (0x60 ∷ r) (form-simple (0x60 ∷ r) NoLabel (form-none false true (0x60 ∷ r) e) (simple-none (0x60 ∷ r) (raw-word (0x60 ∷ r) e ∙ word-backtick r)))
 
 -- A label that ends before the n bytes that are consumed of a text of `size` bytes.
 abbrev pub Standing : ℕ → SimpleLabel → Type 0

@@ -16,13 +16,13 @@ use Rattle.rst_bytes.specs.Tag.{startsWith}
 use Rattle.rst_bytes.specs.Trim.{trimOf}
 use Rattle.rst_bytes.specs.declared.Part.{Part}
 use Rattle.rst_bytes.specs.declared.Part.the-variants.{Taken, Refused}
-use Rattle.rst_bytes.proofs.EscapedLaws.{taken-le}
+use Rattle.rst_bytes.proofs.EscapedLaws.{refused-taken, taken-le}
 use Rattle.rst_bytes.proofs.TrimLaws.{trim-within}
 use Rattle.restructured_text.specs.declared.Spans.{Spans}
 use Rattle.restructured_text.specs.declared.Spans.the-variants.{Parsed, Nothing}
 use Rattle.restructured_text.specs.Delimited.{delimitedOf, endsWith, closing, backtickedOf}
 use Rattle.restructured_text.specs.Text2target.{targetOf, bracketedOf, insideOf, behindOf, text2targetOf}
-use Rattle.restructured_text.proofs.DelimitedLaws.{refused-taken, taken-is, starts-underscore, backticked-within, backticked-lf}
+use Rattle.restructured_text.proofs.DelimitedLaws.{taken-is, starts-underscore, backticked-within, backticked-lf}
 
 -- the part from 1 to k + 1, as `&s[1..k + 1]` has it
 pub part-one : (s : List ℕ) (k : ℕ) → take (k + 1 - 1) (drop 1 s) ≡ take k (drop 1 s)

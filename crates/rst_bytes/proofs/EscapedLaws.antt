@@ -160,12 +160,48 @@ taken-stop p q s n e h =
     let z : n - 0 ≡ n = omega arith in
     rw z at (w .ended (omega arith))
 
+-- a part is refused or taken
+pub refused-taken : (n : ℕ) → Refused ≡ Taken n → ⊥
+refused-taken n e = let z : _≡_ {A = ℕ} 0 1 = cc in omega arith
+
+-- what is taken, with k bytes before it
+abbrev later : ℕ → Part → Part
+later k (Taken n) = Taken (k + n)
+later k Refused = Refused
+
+taking-later : (p q k : ℕ) (l : List ℕ) (esc : Bool) (n : ℕ) → taking p q esc (k + n) l ≡ later k (taking p q esc n l)
+unfolding taking
+taking-later p q k [] true n = refl
+taking-later p q k [] false n = refl
+taking-later p q k (b ∷ l) true n =
+    let z : k + n + 1 ≡ k + (n + 1) = omega arith in
+    by-test₂ (λ x y. x ≡ later k y) (isEscapable b) _ _ _ _ (λ e. ap (λ (m : ℕ). taking p q false m l) z ∙ taking-later p q k l false (n + 1)) (λ e. refl)
+taking-later p q k (b ∷ l) false n =
+    let z : k + n + 1 ≡ k + (n + 1) = omega arith in
+    by-test₂ (λ x y. x ≡ later k y) (eqb b 0x5C) _ _ _ _
+    (λ e. ap (λ (m : ℕ). taking p q true m l) z ∙ taking-later p q k l true (n + 1))
+    (λ e. by-test₂ (λ x y. x ≡ later k y) (isStop p q b) _ _ _ _
+    (λ f. refl)
+    (λ f. ap (λ (m : ℕ). taking p q false m l) z ∙ taking-later p q k l false (n + 1)))
+
+-- what `escaped` takes, counted from k
+pub taken-from : (p q k : ℕ) (s : List ℕ) (n : ℕ) → escapedOf p q s ≡ Taken n → taking p q false k s ≡ Taken (k + n)
+unfolding escapedOf taking
+taken-from p q k s n e =
+    let z : k ≡ k + 0 = omega arith in
+    ap (λ (m : ℕ). taking p q false m s) z ∙ taking-later p q k s false 0 ∙ ap (later k) (first s e)
+  where
+    first : (l : List ℕ) → escapedOf p q l ≡ Taken n → taking p q false 0 l ≡ Taken n
+    first [] f = f
+    first (b ∷ l) f = go (isStop p q b) refl
+      where
+        go : (x : Bool) → isStop p q b ≡ x → taking p q false 0 (b ∷ l) ≡ Taken n
+        go true g = absurd (refused-taken n (sym (first-stop p q (b ∷ l) (omega arith) g) ∙ f))
+        go false g = sym (first-other p q (b ∷ l) (omega arith) g) ∙ f
+
 -- of a text that is not empty something is taken
 pub taken-pos : (p q b : ℕ) (s : List ℕ) (n : ℕ) → escapedOf p q (b ∷ s) ≡ Taken n → 0 < n
-taken-pos p q b s zero e = absurd (refused-taken (sym (first-stop p q (b ∷ s) (omega arith) (taken-stop p q (b ∷ s) 0 e (omega arith))) ∙ e))
-  where
-    refused-taken : Refused ≡ Taken 0 → ⊥
-    refused-taken e = let z : _≡_ {A = ℕ} 0 1 = cc in omega arith
+taken-pos p q b s zero e = absurd (refused-taken 0 (sym (first-stop p q (b ∷ s) (omega arith) (taken-stop p q (b ∷ s) 0 e (omega arith))) ∙ e))
 taken-pos p q b s (suc n) e = omega arith
 
 -- the first byte of a text without p and q, and the rest

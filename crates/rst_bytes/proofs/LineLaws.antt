@@ -208,13 +208,16 @@ unfolding bytesFrom
 bytes-le f [] n k h = omega arith
 bytes-le f (b ∷ l) n k h = by-test (λ x. x ≤ k) (f b) _ _ (λ e. bytes-le f l (n + 1) k (omega arith)) (λ e. omega arith)
 
+pub bytes-within : (f : ℕ → Bool) (s : List ℕ) → bytesFrom f 0 s ≤ length s
+bytes-within f s = bytes-le f s 0 (length s) (omega arith)
+
 -- there are no more than there are bytes
 pub space0-le : (s : List ℕ) → space0Of s ≤ length s
-space0-le s = bytes-le isSpace s 0 (length s) (omega arith)
+space0-le s = bytes-within isSpace s
 
 -- there are no more than there are bytes
 pub multispace0-le : (s : List ℕ) → multispace0Of s ≤ length s
-multispace0-le s = bytes-le isMultispace s 0 (length s) (omega arith)
+multispace0-le s = bytes-within isMultispace s
 
 -- so `space1`
 space1-in : (s : List ℕ) → SomeIn (length s) (space1Of s)
@@ -292,7 +295,7 @@ body-drop (b ∷ c ∷ s) (suc n) h = body-drop (c ∷ s) n h
 -- A text behind which LF and t are put.
 
 -- the count is the same, if the byte behind does not pass
-bytes-append : (f : ℕ → Bool) (b : ℕ) (t : List ℕ) → f b ≡ false → (s : List ℕ) (n : ℕ) → bytesFrom f n (s ++ b ∷ t) ≡ bytesFrom f n s
+pub bytes-append : (f : ℕ → Bool) (b : ℕ) (t : List ℕ) → f b ≡ false → (s : List ℕ) (n : ℕ) → bytesFrom f n (s ++ b ∷ t) ≡ bytesFrom f n s
 unfolding bytesFrom
 bytes-append f b t h [] n = rw (h, bytesFrom) refl
 bytes-append f b t h (c ∷ s) n = by-test₂ _≡_ (f c) _ _ _ _ (λ e. bytes-append f b t h s (n + 1)) (λ e. refl)
@@ -333,7 +336,7 @@ not-line-ending-lf s t h = line-append t s 0 h
 -- The spaces and tabs at the front of a text.
 
 -- bytes are counted on from n
-bytes-count : (f : ℕ → Bool) (s : List ℕ) (n : ℕ) → bytesFrom f n s ≡ n + bytesFrom f 0 s
+pub bytes-count : (f : ℕ → Bool) (s : List ℕ) (n : ℕ) → bytesFrom f n s ≡ n + bytesFrom f 0 s
 unfolding bytesFrom
 bytes-count f [] n = omega arith
 bytes-count f (b ∷ s) n =

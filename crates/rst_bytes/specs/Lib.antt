@@ -25,9 +25,9 @@
 --                      space1-le, multispace0-le; TagLaws starts-le
 --   progress           DomainLaws char-within; EscapedLaws taken-pos; LineLaws newline-pos, line-ending-pos, space1-pos
 --   what follows       DomainLaws char-inside, inside-at: no character starts inside another; EscapedLaws taken-stop: a part
---                      ends before a stop byte, stop-is: which is one of two; LineLaws not-line-ending-end: a line ends before
---                      a line ending, space0-starts, space0-free: what spaces and tabs at the front begin with and lack; TagLaws
---                      starts-append, starts-space
+--                      ends before a stop byte, stop-is: which is one of two, taken-from: it is the same counted from any number;
+--                      LineLaws not-line-ending-end: a line ends before a line ending, space0-starts, space0-free: what spaces and
+--                      tabs at the front begin with and lack; TagLaws starts-append, starts-space
 --   appending          LineLaws body-drop; on s ++ 10 ∷ t: DomainLaws char-lf, outside-lf, run-lf; WordLaws word-lf; EscapedLaws refused-lf,
 --                      taken-lf, open-lf; LineLaws newline-lf, line-ending-lf, not-line-ending-lf, space0-lf, space1-lf; TagLaws starts-lf
 pub mod Tests

@@ -1,5 +1,6 @@
 // Replays the recorded answers of the Rust on the proved functions, and writes how many agree. data/README.md says what is
 // recorded and how it was made.
+mod documents;
 mod number;
 mod parsers;
 mod replay;
@@ -31,7 +32,7 @@ fn say(name: &[u8], recorded: usize, right: usize) {
 }
 
 fn main() {
-    let mut data = [0u8; 262144];
+    let mut data = [0u8; 655360];
     let n = load(b"pieces.bin", &mut data);
     say(
         b"pieces",
@@ -45,4 +46,9 @@ fn main() {
         number::four(&data, 0),
         parsers::replay(&data[..n], &mut scratch),
     );
+    let n = load(b"documents.bin", &mut data);
+    let mut first = [0u8; 16384];
+    let mut second = [0u8; 16384];
+    let walk = documents::replay(&data[..n], &mut first, &mut second);
+    say(b"single-link calls", walk.calls, walk.right);
 }

@@ -24,7 +24,9 @@ pub fn two(s: &[u8], at: usize) -> usize
     }
 }
 
-pub fn four(s: &[u8], at: usize) -> usize {
+pub fn four(s: &[u8], at: usize) -> usize
+    ensures { λ r. ⌜ r < 4294967296 ⌝ }
+{
     if s.len() < 4 {
         return 0;
     }

@@ -57,7 +57,7 @@ fn record_at(s: &[u8], at: usize) -> Record {
 }
 
 // Whether s begins with t.
-fn begins(s: &[u8], t: &[u8]) -> bool {
+pub fn begins(s: &[u8], t: &[u8]) -> bool {
     let mut i = 0;
     while i < t.len() {
         if s.len() <= i {

@@ -1,7 +1,8 @@
-//! The proved pieces and parsers, through the archive.
+//! The proved pieces and parsers and the single-link call, through the archive.
 
 use driver::parsers::{Parsed, has_scratch};
 use driver::pieces::Answer;
+use driver::single::Single;
 use std::borrow::Cow;
 
 /// As crates/pieces has them.
@@ -22,6 +23,17 @@ struct Places {
     consumed: usize,
 }
 
+#[repr(C)]
+struct Taken {
+    number: u32,
+    bytes: u32,
+    kind: u32,
+    skipped: u32,
+    consumed: u32,
+    first: u32,
+    second: u32,
+}
+
 unsafe extern "C" {
     fn rst_piece(kind: usize, parameter: usize, s: *const u8, len: usize) -> Numbers;
     fn rst_parser(
@@ -31,6 +43,15 @@ unsafe extern "C" {
         scratch: *mut u8,
         scratch_len: usize,
     ) -> Places;
+    fn rst_single(
+        document: *const u8,
+        document_len: usize,
+        place: usize,
+        first: *mut u8,
+        first_len: usize,
+        second: *mut u8,
+        second_len: usize,
+    ) -> Taken;
 }
 
 /// The answer of the piece with that number.
@@ -65,6 +86,32 @@ pub fn parser<'a>(number: u8, s: &'a [u8], scratch: &'a mut [u8]) -> Parsed<'a> 
             consumed: n.consumed,
         },
         _ => Parsed::NoRoom,
+    }
+}
+
+/// The answer of the single-link call.
+pub fn single(document: &[u8], place: usize, first: &mut [u8], second: &mut [u8]) -> Single {
+    // The call reads the one slice, reads and writes the others, and asks
+    // nothing of its arguments.
+    let taken = unsafe {
+        rst_single(
+            document.as_ptr(),
+            document.len(),
+            place,
+            first.as_mut_ptr(),
+            first.len(),
+            second.as_mut_ptr(),
+            second.len(),
+        )
+    };
+    Single {
+        number: taken.number,
+        bytes: taken.bytes,
+        kind: taken.kind,
+        skipped: taken.skipped,
+        consumed: taken.consumed,
+        first: taken.first,
+        second: taken.second,
     }
 }
 

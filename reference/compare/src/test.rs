@@ -2,7 +2,7 @@
 
 use driver::parsers::Parsed;
 use driver::pieces::Answer;
-use std::fmt::Debug;
+use std::fmt::{Debug, Display};
 
 /// What both sides answer.
 pub trait Answered: PartialEq + Debug {
@@ -50,14 +50,14 @@ impl Test {
 
     /// Holds a proved answer to the Rust's. The parameter is what was asked
     /// besides the input.
-    pub fn hold<T: Answered>(&mut self, input: &[u8], parameter: usize, proved: T, rust: T) {
+    pub fn hold<T: Answered>(&mut self, input: &[u8], parameter: impl Display, proved: T, rust: T) {
         self.tried += 1;
         self.accepted += u64::from(rust.is_accepted());
         self.also(input, parameter, proved, rust);
     }
 
     /// Holds one more answer on an input that is counted already.
-    pub fn also<T: Answered>(&mut self, input: &[u8], parameter: usize, proved: T, rust: T) {
+    pub fn also<T: Answered>(&mut self, input: &[u8], parameter: impl Display, proved: T, rust: T) {
         if proved == rust {
             return;
         }
@@ -80,6 +80,12 @@ pub struct Count {
 }
 
 impl Count {
+    /// A test that holds or does not.
+    pub fn ask(&mut self, holds: bool) {
+        self.passed += u64::from(holds);
+        self.failed += u64::from(!holds);
+    }
+
     pub fn end(&mut self, test: Test) {
         println!(
             "{}: {} inputs, {} accepted, {} differ",
@@ -88,10 +94,6 @@ impl Count {
         if let Some(d) = &test.shortest {
             println!("  {:02X?}, {}", d.input, d.said);
         }
-        if test.differ == 0 && test.tried > 0 {
-            self.passed += 1;
-        } else {
-            self.failed += 1;
-        }
+        self.ask(test.differ == 0 && test.tried > 0);
     }
 }

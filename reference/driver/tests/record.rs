@@ -153,6 +153,6 @@ fn files() {
     let mut table = Table::new("recorded files");
     check(&mut table, pieces_file(), 200_000, ask_pieces);
     check(&mut table, parsers_file(), 260_000, ask_parsers);
-    check(&mut table, documents_file(), 500_000, ask_documents);
+    check(&mut table, documents_file(), 600_000, ask_documents);
     table.end();
 }

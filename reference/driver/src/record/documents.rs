@@ -20,6 +20,13 @@ const CASE_LONGEST: usize = 1_100;
 /// The most bytes of records that a recorded answer holds.
 const RECORDS_LONGEST: usize = 4_400;
 
+/// Generated documents recorded at every place, and the longest of them.
+const PLACED: usize = 50;
+const PLACED_LONGEST: usize = 40;
+
+/// The longest document of a case recorded at every place.
+const PLACED_CASE_LONGEST: usize = 20;
+
 /// A document and the calls recorded on it.
 struct Entry {
     doc: Vec<u8>,
@@ -32,6 +39,7 @@ pub fn documents_file() -> File {
     case_entries(&mut entries);
     limit_entries(&mut entries);
     generated_entries(&mut entries);
+    place_entries(&mut entries);
     sequence_entries(&mut entries);
     let chunks = entries.iter().flat_map(entry_chunks).collect();
     File::counted(entries.len(), chunks, recorded::document_chunks)
@@ -220,6 +228,46 @@ fn resumed_places(doc: &[u8]) -> Vec<usize> {
         place += (answer.skipped + answer.consumed) as usize;
         places.push(place);
     }
+}
+
+/// Short documents, of cases and generated, every eighth of these in or out of
+/// the domain, with single-link calls at every place.
+fn place_entries(entries: &mut Vec<Entry>) {
+    let cases = [scope::proved(), scope::beside(), reading::sentences()];
+    let mut docs: Vec<Vec<u8>> = Vec::new();
+    for case in cases.into_iter().flatten() {
+        if case.doc.len() <= PLACED_CASE_LONGEST && !docs.contains(&case.doc) {
+            docs.push(case.doc);
+        }
+    }
+    let generated = (1u64..).map(|seed| generate::document(seed, !seed.is_multiple_of(8)));
+    let short = generated.filter(|doc| (2..=PLACED_LONGEST).contains(&doc.len()));
+    docs.extend(short.take(PLACED));
+    for doc in docs {
+        let calls = (0..=doc.len() + 1)
+            .flat_map(|place| calls_at(&doc, place))
+            .collect();
+        entries.push(Entry { doc, calls });
+    }
+}
+
+/// The single-link call with buffers that just suffice, and where a string is
+/// not empty one with a buffer too short: of the first string, of the second,
+/// or both of none, in turn.
+fn calls_at(doc: &[u8], place: usize) -> Vec<Call> {
+    let exact = exact_one(doc, place);
+    let short = match place % 3 {
+        0 => short_one(doc, place, true),
+        1 => short_one(doc, place, false),
+        _ => Some(Call::One {
+            place,
+            first: 0,
+            second: 0,
+        }),
+    };
+    let mut calls = vec![exact];
+    calls.extend(short.filter(|call| *call != exact));
+    calls
 }
 
 /// A few sequences of every alphabet, drawn by number.

@@ -1,0 +1,59 @@
+-- What the contracts of private functions speak of: a round's answer with the place that comes next; what is known of backticks; how
+-- two strings are handed over.
+-- Assumes nothing.
+use Prim.Native.Nat.{ℕ, _+_, _<_, _≤_}
+use mathlib.Core.Path.{_≡_}
+use mathlib.Core.List.{List}
+use mathlib.Core.Bool.{Bool}
+use lib.ListN.{drop, getD}
+use Rattle.rst_bytes.specs.declared.Part.the-variants.{Refused}
+use Rattle.restructured_text.specs.Delimited.{backtickedOf}
+use Rattle.parse.specs.declared.rounds.Step.{Step}
+use Rattle.parse.specs.declared.rounds.Step.the-variants.{Stops, Passes}
+use Rattle.parse.specs.declared.Link.{Link}
+use Rattle.parse.specs.declared.Link.the-variants.{Text2Dest, TextLabel2Dest, Text2Label, Label2Dest, Label2Label}
+use Rattle.parse.specs.declared.buffers.Handed.{Handed}
+use Rattle.parse.specs.declared.buffers.Handed.the-variants.{Both, TooShort}
+use Rattle.parse.specs.Link.{Kind, found, scannedOf, Ends}
+use Rattle.parse.specs.Scan.{Round, ends, passes}
+use Rattle.parse.specs.Single.{Outcome, refusal, acceptance, handed}
+
+-- from place m on and before place n of s no backtick begins a part that is closed by `_
+abbrev pub Shut : ℕ → ℕ → List ℕ → Type 0
+Shut m n s = (i : ℕ) → m ≤ i → i < n → getD s i 0 ≡ 0x60 → (anonym : Bool) → backtickedOf anonym (drop i s) ≡ Refused
+
+-- what a step says, with the scratch as it was left: places count from the front of the document
+abbrev pub stepOf : Step → List ℕ → Round
+stepOf (Stops x) scratch = ends (scannedOf x scratch)
+stepOf (Passes next shut) scratch = passes next
+
+abbrev pub StepEnds : Step → Type 0
+StepEnds (Stops x) = Ends x
+StepEnds (Passes next shut) = Unit {0}
+
+-- what is known of backticks from the next place on
+abbrev pub StepShut : List ℕ → Step → Type 0
+StepShut s (Stops x) = Unit {0}
+StepShut s (Passes next shut) = Shut next shut s
+
+-- both strings end within the first n bytes of the scratch
+abbrev pub LinkWithin : ℕ → Link → Type 0
+LinkWithin n (Text2Dest a b skipped consumed) = (a .start + a .len ≤ n) × (b .start + b .len ≤ n)
+LinkWithin n (TextLabel2Dest a b skipped consumed) = (a .start + a .len ≤ n) × (b .start + b .len ≤ n)
+LinkWithin n (Text2Label a b skipped consumed) = (a .start + a .len ≤ n) × (b .start + b .len ≤ n)
+LinkWithin n (Label2Dest a b skipped consumed) = (a .start + a .len ≤ n) × (b .start + b .len ≤ n)
+LinkWithin n (Label2Label a b skipped consumed) = (a .start + a .len ≤ n) × (b .start + b .len ≤ n)
+
+-- what comes back of a link of that case, with the buffers as they were left
+abbrev pub handedOf : Kind → ℕ → ℕ → Handed → List ℕ → List ℕ → Outcome
+handedOf kind skipped consumed (Both a b) f g = acceptance kind (a .len) (b .len) skipped consumed f g
+handedOf kind skipped consumed (TooShort n) f g = refusal 7 n f g
+
+-- the strings x and y of a link were handed over to the buffers f and g, which are f′ and g′ then: whichever case it is
+abbrev pub HandsOver : Handed → List ℕ → List ℕ → List ℕ → List ℕ → List ℕ → List ℕ → Type 0
+HandsOver r f′ g′ f g x y =
+    (kind : Kind) (skipped consumed : ℕ) → handedOf kind skipped consumed r f′ g′ ≡ handed f g (found kind x y skipped consumed)
+
+abbrev pub HandedFronts : Handed → Type 0
+HandedFronts (Both a b) = (a .start ≡ 0) × (b .start ≡ 0)
+HandedFronts (TooShort n) = Unit {0}

@@ -1,0 +1,105 @@
+// The scanner: the next link of a text, whichever of the five cases it is, and the single-link call.
+//
+// The third layer (document 01, "`parse.rs`: `take_link`"), over the promises of `restructured_text`. A public call asks nothing of
+// its caller and always returns; its contract is an equation with a definition of specs/.
+mod backtick;
+mod buffers;
+mod forms;
+mod rounds;
+
+use crate::buffers::hand_over;
+use crate::buffers::is_place;
+use crate::rounds::Step;
+use crate::rounds::round;
+use restructured_text::Span;
+use rst_bytes::Outside;
+use rst_bytes::domain::first_outside;
+ghost use mathlib.Core.Path.{_≡_};
+ghost use Rattle.parse.specs.Link.{scannedOf, Ends, lent};
+ghost use Rattle.parse.specs.Scan.{scanOf};
+ghost use Rattle.parse.specs.Single.{outcomeOf, singleOf, Fronts};
+
+// A link: where its first string (text or name) and its second string (label, destination or alias target) stand, how many bytes
+// were skipped before it and how many it consumed.
+pub enum Link {
+    // An anonymous embedded link.
+    Text2Dest(Span, Span, usize, usize),
+    // A named embedded link, which also defines its text as a name.
+    TextLabel2Dest(Span, Span, usize, usize),
+    // A reference.
+    Text2Label(Span, Span, usize, usize),
+    // A block that gives a name a destination.
+    Label2Dest(Span, Span, usize, usize),
+    // A block that makes a name an alias.
+    Label2Label(Span, Span, usize, usize),
+}
+
+// A scan's answer: a link whose strings stand in the scratch; or that there is none; or that the scratch is shorter than the text.
+pub enum Scan {
+    Found(Link),
+    NotFound,
+    NoRoom,
+}
+
+// The single-link call's answer: a link whose strings stand at the front of the two buffers; or the refusal's number, with its
+// place or size in bytes.
+pub enum Single {
+    Linked(Link),
+    Refused(u32, usize),
+}
+
+// The longest document.
+pub const DOCUMENT_LEN_MAX: usize = 16384;
+
+// The first link of s, which counts as the start of the input; its strings are left in the scratch.
+pub fn take_link(s: &[u8], scratch: &mut [u8]) -> Scan
+    ensures scan { λ r. ⌜ scannedOf r (now (scratch .exit)) ≡ lent (now (s .entry)) (now (scratch .entry)) (scanOf (now (s .entry))) ⌝ }
+    ensures ends { λ r. ⌜ Ends r ⌝ }
+{
+    if scratch.len() < s.len() {
+        return Scan::NoRoom;
+    }
+    let mut i = 0;
+    let mut input_start = true;
+    let mut shut = 0;
+    while i < s.len() {
+        match round(s, i, scratch, input_start, shut) {
+            Step::Stops(x) => {
+                return x;
+            }
+            Step::Passes(next, known) => {
+                i = next;
+                input_start = false;
+                shut = known;
+            }
+        }
+    }
+    Scan::NotFound
+}
+
+// The first link of the document from a place on; its strings are written to the front of the two buffers, or all of this is
+// refused and nothing is written.
+pub fn single_link(document: &[u8], place: usize, first: &mut [u8], second: &mut [u8]) -> Single
+    ensures outcome { λ r. ⌜ outcomeOf r (now (first .exit)) (now (second .exit)) ≡ singleOf (now (document .entry)) place (now (first .entry)) (now (second .entry)) ⌝ }
+    ensures fronts { λ r. ⌜ Fronts r ⌝ }
+{
+    if DOCUMENT_LEN_MAX < document.len() {
+        return Single::Refused(2, 0);
+    }
+    match first_outside(document) {
+        Outside::At(n) => {
+            return Single::Refused(4, n);
+        }
+        Outside::Nowhere => {}
+    }
+    if is_place(document, place) {
+        let mut scratch = [0u8; DOCUMENT_LEN_MAX];
+        match take_link(&document[place..], &mut scratch) {
+            Scan::Found(x) => hand_over(x, &scratch, first, second),
+            Scan::NotFound => Single::Refused(9, 0),
+            Scan::NoRoom => Single::Refused(9, 0),
+        }
+    } else {
+        Single::Refused(8, 0)
+    }
+}

@@ -1,0 +1,229 @@
+// One round of the scanner: (a) LFs, (b) blocks, (c) blanks, (d) embedded links, (e) references, (f) other bytes.
+//
+// Each function takes the document and a place in it, and a scratch as long as the document. What an earlier round learnt of
+// backticks that are never closed is handed on as a place, so that they are not read again and again.
+use crate::Scan;
+use crate::backtick::unclosed;
+use crate::forms::block;
+use crate::forms::embedded;
+use crate::forms::reference;
+use rst_bytes::line::space0;
+ghost use mathlib.Core.Path.{_≡_};
+ghost use mathlib.Core.Bool.{_||_};
+ghost use lib.Dec.{ltb};
+ghost use Prim.Native.Nat.{_+_, _≤_, _<_};
+ghost use lib.ListN.{length, drop};
+ghost use Rattle.rst_bytes.specs.Line.{bytesFrom};
+ghost use Rattle.parse.specs.Link.{scannedOf, Ends, behind};
+ghost use Rattle.parse.specs.Forms.{rst};
+ghost use Rattle.parse.specs.Scan.{
+  lfsOf,
+  blockAt,
+  isOpening,
+  openingOf,
+  referenceAt,
+  followed,
+  inlineAt,
+  isStart,
+  isPlain,
+  passes,
+  passedOf,
+  textRound,
+  blankRound,
+  roundOf,
+  later,
+};
+ghost use Rattle.parse.specs.Inner.{Shut, stepOf, StepEnds, StepShut};
+
+// A round's answer: the scan's; or the place where the next round starts, and a place up to which no backtick from there on need be tried.
+pub enum Step {
+    Stops(Scan),
+    Passes(usize, usize),
+}
+
+// (a) How many LFs stand at the front.
+fn newlines(s: &[u8]) -> usize
+    ensures { λ r. ⌜ r ≡ lfsOf (now (s .entry)) ⌝ }
+{
+    let mut i = 0;
+    while i < s.len() {
+        let b = s[i];
+        if b == b'\n' {
+            i = i + 1;
+        } else {
+            return i;
+        }
+    }
+    i
+}
+
+// Whether it was a start before, or n bytes that make one were consumed.
+fn starts(before: bool, n: usize) -> bool
+    ensures { λ r. ⌜ r ≡ (before || ltb 0 n) ⌝ }
+{
+    if before {
+        return true;
+    }
+    0 < n
+}
+
+// (b) A block, at line or input start.
+fn block_at(s: &[u8], i: usize, scratch: &mut [u8], line: bool) -> Scan
+    requires { ⌜ (i ≤ length (now s)) × (length (now s) ≤ length (now scratch)) ⌝ }
+    ensures scan { λ r. ⌜ scannedOf r (now (scratch .exit)) ≡ behind i (blockAt rst line (drop i (now (s .entry)))) ⌝ }
+    ensures ends { λ r. ⌜ Ends r ⌝ }
+{
+    if line {
+        block(&s[i..], i, scratch)
+    } else {
+        Scan::NotFound
+    }
+}
+
+// (e) One of `([<'"`.
+fn is_opening(b: u8) -> bool
+    ensures { λ r. ⌜ r ≡ isOpening b ⌝ }
+{
+    b == b'(' || (b == b'[' || (b == b'<' || (b == b'\'' || b == b'"')))
+}
+
+// (e) A reference, behind one of these if there is one.
+fn reference_at(s: &[u8], i: usize, scratch: &mut [u8], spaced: bool) -> Scan
+    requires { ⌜ (i < length (now s)) × (length (now s) ≤ length (now scratch)) ⌝ }
+    ensures scan { λ r. ⌜ scannedOf r (now (scratch .exit)) ≡ behind i (followed rst (drop i (now (s .entry))) (referenceAt rst spaced (drop i (now (s .entry))))) ⌝ }
+    ensures ends { λ r. ⌜ Ends r ⌝ }
+{
+    if spaced {
+        let b = s[i];
+        if is_opening(b) {
+            let j = i + 1;
+            return reference(&s[j..], j, scratch);
+        }
+        return reference(&s[i..], i, scratch);
+    }
+    Scan::NotFound
+}
+
+// (d) and (e) at a backtick.
+fn inline_at(s: &[u8], i: usize, scratch: &mut [u8], spaced: bool) -> Scan
+    requires { ⌜ (i < length (now s)) × (length (now s) ≤ length (now scratch)) ⌝ }
+    ensures scan { λ r. ⌜ scannedOf r (now (scratch .exit)) ≡ behind i (inlineAt rst spaced (drop i (now (s .entry)))) ⌝ }
+    ensures ends { λ r. ⌜ Ends r ⌝ }
+{
+    match embedded(&s[i..], i, scratch) {
+        Scan::Found(x) => {
+            return Scan::Found(x);
+        }
+        Scan::NotFound => {}
+        Scan::NoRoom => {
+            return Scan::NoRoom;
+        }
+    }
+    reference_at(s, i, scratch, spaced)
+}
+
+// (f) One of the bytes at which a link may start.
+fn is_start(b: u8) -> bool
+    ensures { λ r. ⌜ r ≡ isStart b ⌝ }
+{
+    b == b'\n'
+        || (b == b' '
+            || (b == b'\t'
+                || (b == b'`' || (b == b'!' || (b == b'[' || (b == b'{' || b == b'<'))))))
+}
+
+// (f) How many other bytes stand at the front.
+fn plain(s: &[u8]) -> usize
+    ensures { λ r. ⌜ r ≡ bytesFrom isPlain 0 (now (s .entry)) ⌝ }
+{
+    let mut i = 0;
+    while i < s.len() {
+        let b = s[i];
+        if is_start(b) {
+            return i;
+        }
+        i = i + 1;
+    }
+    i
+}
+
+// (f) The place behind one byte and those others.
+fn passed(s: &[u8], i: usize) -> usize
+    requires { ⌜ i < length (now s) ⌝ }
+    ensures { λ r. ⌜ later i (passedOf (drop i (now (s .entry)))) ≡ passes r ⌝ }
+{
+    let j = i + 1;
+    j + plain(&s[j..])
+}
+
+// (d) to (f).
+fn text_round(s: &[u8], i: usize, scratch: &mut [u8], spaced: bool, shut: usize) -> Step
+    requires room { ⌜ (i ≤ length (now s)) × (length (now s) ≤ length (now scratch)) ⌝ }
+    requires shut { ⌜ Shut i shut (now s) ⌝ }
+    ensures step { λ r. ⌜ stepOf r (now (scratch .exit)) ≡ later i (textRound rst spaced (drop i (now (s .entry)))) ⌝ }
+    ensures ends { λ r. ⌜ StepEnds r ⌝ }
+    ensures shut { λ r. ⌜ StepShut (now (s .entry)) r ⌝ }
+{
+    if s.len() <= i {
+        return Step::Stops(Scan::NotFound);
+    }
+    let b = s[i];
+    if b == b'`' {
+        let known = shut_from(s, i, shut);
+        if i < known {
+            return Step::Passes(passed(s, i), known);
+        }
+        match inline_at(s, i, scratch, spaced) {
+            Scan::Found(x) => Step::Stops(Scan::Found(x)),
+            Scan::NotFound => Step::Passes(passed(s, i), known),
+            Scan::NoRoom => Step::Stops(Scan::NoRoom),
+        }
+    } else {
+        match reference_at(s, i, scratch, spaced) {
+            Scan::Found(x) => Step::Stops(Scan::Found(x)),
+            Scan::NotFound => Step::Passes(passed(s, i), shut),
+            Scan::NoRoom => Step::Stops(Scan::NoRoom),
+        }
+    }
+}
+
+// What is known of backticks from place i on, once the one at place i was looked at.
+fn shut_from(s: &[u8], i: usize, shut: usize) -> usize
+    requires room { ⌜ i < length (now s) ⌝ }
+    requires shut { ⌜ Shut i shut (now s) ⌝ }
+    ensures { λ r. ⌜ Shut i r (now (s .entry)) ⌝ }
+{
+    if i < shut {
+        return shut;
+    }
+    let n = unclosed(&s[i..]);
+    if n == 0 {
+        return shut;
+    }
+    i + n
+}
+
+// (a) to (f).
+pub fn round(s: &[u8], i: usize, scratch: &mut [u8], start: bool, shut: usize) -> Step
+    requires room { ⌜ (i ≤ length (now s)) × (length (now s) ≤ length (now scratch)) ⌝ }
+    requires shut { ⌜ Shut i shut (now s) ⌝ }
+    ensures step { λ r. ⌜ stepOf r (now (scratch .exit)) ≡ later i (roundOf rst start (drop i (now (s .entry)))) ⌝ }
+    ensures ends { λ r. ⌜ StepEnds r ⌝ }
+    ensures shut { λ r. ⌜ StepShut (now (s .entry)) r ⌝ }
+{
+    let n = newlines(&s[i..]);
+    let a = i + n;
+    let line = starts(start, n);
+    match block_at(s, a, scratch, line) {
+        Scan::Found(x) => {
+            return Step::Stops(Scan::Found(x));
+        }
+        Scan::NotFound => {}
+        Scan::NoRoom => {
+            return Step::Stops(Scan::NoRoom);
+        }
+    }
+    let m = space0(&s[a..]);
+    let spaced = starts(line, m);
+    text_round(s, a + m, scratch, spaced, shut)
+}
