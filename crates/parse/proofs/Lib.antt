@@ -1,3 +1,4 @@
+-- `CasesHold` computes the worked cases; the others are the laws that specs/Lib.antt lists, and what they need.
 pub mod ScanLaws
 pub mod LinksLaws
 pub mod ShortLaws
@@ -6,3 +7,4 @@ pub mod FormsLaws
 pub mod BacktickLaws
 pub mod RoundLaws
 pub mod SingleLaws
+mod CasesHold

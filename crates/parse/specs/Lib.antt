@@ -1,6 +1,28 @@
+-- What the scanner promises: document 01, "`parse.rs`: `take_link`", and its table of refusals for the single-link call.
+--
+-- Each definition, and the public function whose contract is an equation with it, on every input, place, scratch and buffer:
+--   Scan      scanOf      take_link      the first link of a text: rounds (a) to (f)
+--   Single    singleOf    single_link    number and values, and both buffers
+-- Link says what an answer means with the scratch as the scanner left it, that a scratch as long as the text is enough and is asked
+-- for, and that the strings end within as many bytes of it as are consumed (Ends, part of the contract). Forms lists the parsers that
+-- are tried, and where. Single gives 01's number and values for each case of the single-link answer (outcomeOf); its strings stand at
+-- the front of the buffers (Fronts, part of the contract). Links says what all links of a text are, one after the other. Inner is what
+-- the contracts of private functions speak of. Cases gathers worked cases, which proofs/CasesHold.antt computes.
+--
+-- Laws, proved in the file of proofs/ that is named, for the layers above; those marked * hold for any forms that consume at least one
+-- byte (`Forms.Consuming`), and reStructuredText's do (ScanLaws rst-consuming):
+--   scanning ends      ScanLaws scan-inside *, scan-within *: with a link of at least one byte within the text, or with none;
+--                      scan-room *: and never for want of room; LinksLaws links-equation *, links-found *, links-none *: the links of a
+--                      text are its first and those of what is behind it
+--   in order and apart LinksLaws links-apart *, links-of-apart: each link starts at or after the end of the one before
+--   sizes              ShortLaws scan-strings: no string is longer than what was consumed
+--   appending          on s ++ 10 ∷ t, for `Tail t` and `Body s`: AppendingLaws scan-lf: a link found in s is found alike; scan-none-lf:
+--                      where none is, whatever is found starts past the LF; links-lf: the links are those of s and then some that start
+--                      past the LF
 pub mod Link
 pub mod Forms
 pub mod Scan
 pub mod Links
 pub mod Single
 pub mod Inner
+pub mod Cases
