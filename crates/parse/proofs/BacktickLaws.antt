@@ -20,13 +20,13 @@ use Rattle.rst_bytes.proofs.Lists.{drop-next, drop-two, drop-last, drop-end}
 use Rattle.rst_bytes.proofs.TestLaws.{by-test, lt-or-le}
 use Rattle.rst_bytes.proofs.EscapedLaws.{refused-taken, taken-from, at-end, at-plain, at-stop, at-alone, at-pair, at-wrong}
 use Rattle.restructured_text.specs.Delimited.{closing, backtickedOf}
-use Rattle.restructured_text.specs.Strings.{Link, link, none, no-room}
 use Rattle.restructured_text.proofs.DelimitedLaws.{taken-is, delimited-is, backticked-other}
 use Rattle.restructured_text.proofs.InlineLaws.{text2dest-refused, text-label2dest-refused, text2label-refused}
-use Rattle.parse.specs.Link.{Kind, text2dest, text-label2dest, text2label, Scanned, found, nothing, behind, orElse}
+use Rattle.parse.specs.Link.{Scanned, nothing, behind, orElse}
 use Rattle.parse.specs.Forms.{tried, rst}
 use Rattle.parse.specs.Scan.{isOpening, openingOf, referenceAt, followed, inlineAt}
 use Rattle.parse.specs.Inner.{Shut}
+use Rattle.parse.proofs.FormsLaws.{anonymous, named, reference, tried-next}
 
 -- nothing is claimed of no places
 pub shut-none : (s : List ℕ) (m n : ℕ) → n ≤ m → Shut m n s
@@ -161,19 +161,15 @@ module _ (s : List ℕ) (i : ℕ) where
 
 -- What is found at a place.
 
--- a form that finds nothing leaves it to the others
-tried-none : (k : Kind) (z : Link) (d : Scanned) → z ≡ none → elim z [ link x y n ↦ found k x y 0 n | none ↦ d | no-room ↦ d ] ≡ d
-tried-none k z d e = ap (λ (z : Link). elim z [ link x y n ↦ found k x y 0 n | none ↦ d | no-room ↦ d ]) e
-
 -- where no backticked run begins there is no embedded link
 embedded-refused : (s : List ℕ) → ((anonym : Bool) → backtickedOf anonym s ≡ Refused) → tried (rst .embedded) s ≡ nothing
 embedded-refused s f =
-    tried-none text2dest _ _ (text2dest-refused s (f true)) ∙ tried-none text-label2dest _ _ (text-label2dest-refused s (f false))
+    tried-next anonymous (named ∷ []) s (text2dest-refused s (f true)) ∙ tried-next named [] s (text-label2dest-refused s (f false))
 
 -- and no reference, if it is a backtick that begins none; a backtick is no opening that is skipped
 quoted-refused : (spaced : Bool) (r : List ℕ) → backtickedOf false (0x60 ∷ r) ≡ Refused → referenceAt rst spaced (0x60 ∷ r) ≡ nothing
 unfolding openingOf isOpening
-quoted-refused true r e = ap (behind 0) (tried-none text2label _ _ (text2label-refused r e))
+quoted-refused true r e = ap (behind 0) (tried-next reference [] (0x60 ∷ r) (text2label-refused r e))
 quoted-refused false r e = refl
 
 module _ (spaced : Bool) (s : List ℕ) (i : ℕ) (h : i < length s) where

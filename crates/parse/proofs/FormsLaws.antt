@@ -26,19 +26,19 @@ pub answered : (s d d′ : List ℕ) (z : Link) (x y : Strings) → length s ≤
 answered s d d′ z x y h e f = lent-enough s d z h ∙ sym e ∙ ap (λ (w : Strings). stringsOf w d′) f
 
 -- the forms
-abbrev alias : Form
+abbrev pub alias : Form
 alias = record { kind = label2label; parser = label2labelOf }
 
-abbrev destination : Form
+abbrev pub destination : Form
 destination = record { kind = label2dest; parser = label2destOf }
 
-abbrev anonymous : Form
+abbrev pub anonymous : Form
 anonymous = record { kind = text2dest; parser = text2destOf }
 
-abbrev named : Form
+abbrev pub named : Form
 named = record { kind = text-label2dest; parser = textLabel2destOf }
 
-abbrev reference : Form
+abbrev pub reference : Form
 reference = record { kind = text2label; parser = text2labelOf }
 
 -- The first form finds a link, or not.
@@ -46,8 +46,8 @@ module _ (f : Form) (fs : List Form) (s : List ℕ) where
   tried-link : (x y : List ℕ) (n : ℕ) → f .parser s ≡ link x y n → tried (f ∷ fs) s ≡ found (f .kind) x y 0 n
   tried-link x y n e = rw e
 
-  tried-none : f .parser s ≡ none → tried (f ∷ fs) s ≡ tried fs s
-  tried-none e = rw e
+  pub tried-next : f .parser s ≡ none → tried (f ∷ fs) s ≡ tried fs s
+  tried-next e = rw e
 
 -- a link at the front, with m bytes before it
 at-front : (z : Scanned) (k : Kind) (x y : List ℕ) (m n : ℕ) → z ≡ found k x y 0 n → found k x y m n ≡ behind m z
@@ -69,10 +69,10 @@ module _ (s : List ℕ) (m : ℕ) where
   block-alias x y n e = at-front (tried (rst .blocks) s) label2label x y m n (tried-link alias (destination ∷ []) s x y n e)
 
   pub block-destination : (x y : List ℕ) (n : ℕ) → label2labelOf s ≡ none → label2destOf s ≡ link x y n → found label2dest x y m n ≡ behind m (tried (rst .blocks) s)
-  block-destination x y n e f = at-front (tried (rst .blocks) s) label2dest x y m n (tried-none alias (destination ∷ []) s e ∙ tried-link destination [] s x y n f)
+  block-destination x y n e f = at-front (tried (rst .blocks) s) label2dest x y m n (tried-next alias (destination ∷ []) s e ∙ tried-link destination [] s x y n f)
 
   pub block-nothing : label2labelOf s ≡ none → label2destOf s ≡ none → nothing ≡ behind m (tried (rst .blocks) s)
-  block-nothing e f = sym (ap (behind m) (tried-none alias (destination ∷ []) s e ∙ tried-none destination [] s f))
+  block-nothing e f = sym (ap (behind m) (tried-next alias (destination ∷ []) s e ∙ tried-next destination [] s f))
 
 -- (d) and (e) with what follows: an anonymous embedded link, a named one, neither; a reference, none. A link consumes c bytes with the
 -- block behind it.
@@ -83,16 +83,16 @@ module _ (s : List ℕ) (m : ℕ) where
   pub embedded-named :
       (x y : List ℕ) (n c : ℕ) → text2destOf s ≡ none → textLabel2destOf s ≡ link x y n
       → c ≡ n + consumedOf (tried (rst .unreported) (drop n s)) → found text-label2dest x y m c ≡ behind m (followed rst s (tried (rst .embedded) s))
-  embedded-named x y n c e f g = at-front-followed s (tried (rst .embedded) s) text-label2dest x y m n c (tried-none anonymous (named ∷ []) s e ∙ tried-link named [] s x y n f) g
+  embedded-named x y n c e f g = at-front-followed s (tried (rst .embedded) s) text-label2dest x y m n c (tried-next anonymous (named ∷ []) s e ∙ tried-link named [] s x y n f) g
 
   pub embedded-nothing : text2destOf s ≡ none → textLabel2destOf s ≡ none → nothing ≡ behind m (followed rst s (tried (rst .embedded) s))
-  embedded-nothing e f = sym (ap (λ (z : Scanned). behind m (followed rst s z)) (tried-none anonymous (named ∷ []) s e ∙ tried-none named [] s f))
+  embedded-nothing e f = sym (ap (λ (z : Scanned). behind m (followed rst s z)) (tried-next anonymous (named ∷ []) s e ∙ tried-next named [] s f))
 
   pub reference-found : (x y : List ℕ) (n c : ℕ) → text2labelOf s ≡ link x y n → c ≡ n + consumedOf (tried (rst .unreported) (drop n s)) → found text2label x y m c ≡ behind m (followed rst s (tried (rst .references) s))
   reference-found x y n c e f = at-front-followed s (tried (rst .references) s) text2label x y m n c (tried-link reference [] s x y n e) f
 
   pub reference-nothing : text2labelOf s ≡ none → nothing ≡ behind m (followed rst s (tried (rst .references) s))
-  reference-nothing e = sym (ap (λ (z : Scanned). behind m (followed rst s z)) (tried-none reference [] s e))
+  reference-nothing e = sym (ap (λ (z : Scanned). behind m (followed rst s z)) (tried-next reference [] s e))
 
 -- The destination block behind n bytes.
 module _ (s : List ℕ) (n : ℕ) where
@@ -109,7 +109,7 @@ module _ (s : List ℕ) (n : ℕ) where
 
   pub unreported-none : label2destOf (drop n s) ≡ none → n ≡ n + consumedOf (tried (rst .unreported) (drop n s))
   unreported-none e =
-      let f : consumedOf (tried (rst .unreported) (drop n s)) ≡ 0 = ap consumedOf (tried-none destination [] (drop n s) e) in
+      let f : consumedOf (tried (rst .unreported) (drop n s)) ≡ 0 = ap consumedOf (tried-next destination [] (drop n s) e) in
       omega arith
 
   -- it ends within the text

@@ -1,7 +1,6 @@
 -- `CasesHold` computes the worked cases; the others are the laws that specs/Lib.antt lists, and what they need.
 pub mod ScanLaws
 pub mod LinksLaws
-pub mod ShortLaws
 pub mod AppendingLaws
 pub mod FormsLaws
 pub mod BacktickLaws

@@ -35,15 +35,15 @@ RoundInside m (ends x) = Inside 0 m x
 RoundInside m (passes n) = (0 < n) × (n ≤ m)
 
 -- which of the two a round is, and what it says
-abbrev pub isPass : Round → Bool
+abbrev isPass : Round → Bool
 isPass (ends x) = false
 isPass (passes n) = true
 
-abbrev pub endOf : Round → Scanned
+abbrev endOf : Round → Scanned
 endOf (ends x) = x
 endOf (passes n) = nothing
 
-abbrev pub passOf : Round → ℕ
+abbrev passOf : Round → ℕ
 passOf (ends x) = 0
 passOf (passes n) = n
 
@@ -75,12 +75,12 @@ else-inside n m nothing z w v = v
 else-inside n m Scanned.no-room z w v = w
 
 -- What is tried: a link starts where the text does.
-abbrev pub Here : ℕ → Scanned → Type 0
+abbrev Here : ℕ → Scanned → Type 0
 Here m (found k x y skipped consumed) = (skipped ≡ 0) × (0 < consumed) × (consumed ≤ m)
 Here m nothing = Unit {0}
 Here m Scanned.no-room = ⊥
 
-pub tried-here : (fs : List Form) → AllConsuming fs → (s : List ℕ) → Here (length s) (tried fs s)
+tried-here : (fs : List Form) → AllConsuming fs → (s : List ℕ) → Here (length s) (tried fs s)
 tried-here [] c s = tt
 tried-here (f ∷ fs) c s = go (f .parser s) refl (tried-here fs (c .1) s)
   where
@@ -90,23 +90,6 @@ tried-here (f ∷ fs) c s = go (f .parser s) refl (tried-here fs (c .1) s)
     go (link x y n) e w = (refl, c .0 s x y n e .0, c .0 s x y n e .1)
     go none e w = w
     go no-room e w = w
-
-pub tried-within :
-    (fs : List Form) → AllConsuming fs → (s : List ℕ) (k : Kind) (x y : List ℕ) (m n : ℕ) → tried fs s ≡ found k x y m n
-    → (m ≡ 0) × (0 < n) × (n ≤ length s)
-tried-within fs c s k x y m n e = subst (Here (length s)) e (tried-here fs c s)
-
-pub tried-room : (fs : List Form) → AllConsuming fs → (s : List ℕ) → tried fs s ≡ Scanned.no-room → ⊥
-tried-room fs c s e = subst (Here (length s)) e (tried-here fs c s)
-
--- nothing is found where there is no byte
-pub tried-none : (fs : List Form) → AllConsuming fs → tried fs [] ≡ nothing
-tried-none fs c = go (tried fs []) (tried-here fs c [])
-  where
-    go : (x : Scanned) → Here 0 x → x ≡ nothing
-    go (found k x y i n) w = absurd (omega arith)
-    go nothing w = refl
-    go Scanned.no-room w = absurd w
 
 here-inside : (m : ℕ) (x : Scanned) → Here m x → Inside 0 m x
 here-inside m (found k x y i c) w = (omega arith, w .1, omega arith)
@@ -247,10 +230,10 @@ module _ (forms : Forms) where
     unfolding rounds
     rounds-end h = rw (drop-of-length-le s h) refl
 
-    pub round-stops : (x : Scanned) → i < length s → roundOf forms start (drop i s) ≡ ends x → rounds forms 0 start i (drop i s) ≡ behind i x
+    round-stops : (x : Scanned) → i < length s → roundOf forms start (drop i s) ≡ ends x → rounds forms 0 start i (drop i s) ≡ behind i x
     round-stops x h e = front-stops start i (drop i s) x (omega (arith, length-drop i s)) e
 
-    pub round-passes : (m : ℕ) → 0 < m → roundOf forms start (drop i s) ≡ passes m → rounds forms 0 start i (drop i s) ≡ rounds forms 0 false (i + m) (drop (i + m) s)
+    round-passes : (m : ℕ) → 0 < m → roundOf forms start (drop i s) ≡ passes m → rounds forms 0 start i (drop i s) ≡ rounds forms 0 false (i + m) (drop (i + m) s)
     round-passes m h e = front-passes start i (drop i s) m h e ∙ ap (rounds forms 0 false (i + m)) (drop-drop m i s)
 
 -- what a round gives at place i, with its place counted from the front

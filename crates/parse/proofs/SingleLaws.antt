@@ -5,7 +5,7 @@ use Prim.Native.Nat.{ℕ, _+_, _-_, _<_, _≤_}
 use mathlib.Core.Path.{_≡_, sym, ap, subst, _∙_}
 use mathlib.Core.Logic.{_⊎_, inl, inr}
 use mathlib.Core.List.{List, _++_}
-use mathlib.Core.Bool.{Bool, true, false}
+use mathlib.Core.Bool.{Bool, true, false, not, true≢false}
 use native.Mathlib.Omega.{arith}
 use lib.ListN.{length, take, drop, replicate, length-drop, length-replicate}
 use lib.Seq.{take-length}
@@ -25,11 +25,11 @@ use Rattle.parse.specs.declared.Scan.{Scan}
 use Rattle.parse.specs.declared.buffers.Handed.{Handed}
 use Rattle.parse.specs.declared.buffers.Handed.the-variants.{Both, TooShort}
 use Rattle.parse.specs.Link.{Kind, Scanned, found, linkOf, scannedOf, LinkEnds, lent}
-use Rattle.parse.specs.Forms.{rst}
 use Rattle.parse.specs.Scan.{scanOf}
 use Rattle.parse.specs.Single.{Outcome, refusal, acceptance, documentLenMax, isInside, isPlace, filled, handed, singleOf}
 use Rattle.parse.specs.Inner.{LinkWithin, handedOf, HandsOver, HandedFronts}
-use Rattle.parse.proofs.ScanLaws.{scan-within, rst-consuming}
+use Rattle.parse.proofs.ScanLaws.{scan-of-within}
+use Rattle.parse.proofs.RoundLaws.{lent-enough}
 
 -- What is inside a character.
 module _ (s : List ℕ) where
@@ -48,7 +48,7 @@ module _ (place : ℕ) (s : List ℕ) where
   unfolding isPlace
   place-past h = rw (lt-ltb (length s) place h, isPlace)
 
-  within : (t : Bool) → place ≤ length s → isInside (drop place s) ≡ t → isPlace place s ≡ elim t [ true ↦ false | false ↦ true ]
+  within : (t : Bool) → place ≤ length s → isInside (drop place s) ≡ t → isPlace place s ≡ not t
   unfolding isPlace
   within t h e = rw (le-ltb (length s) place h, e, isPlace)
 
@@ -61,16 +61,12 @@ module _ (place : ℕ) (s : List ℕ) where
   pub place-inside : place < length s → charOf (drop place s) ≡ Nothing → false ≡ isPlace place s
   place-inside h e = sym (within true (omega arith) (inside-nothing (drop place s) (omega (arith, length-drop place s)) e))
 
--- two tests differ
-clash : true ≡ false → ⊥
-clash e = let z : _≡_ {A = ℕ} 0 1 = ap (λ (t : Bool). elim t [ true ↦ 0 | false ↦ 1 ]) e in omega arith
-
 -- a place of the document is not past it
 pub place-le : (place : ℕ) (s : List ℕ) → true ≡ isPlace place s → place ≤ length s
 place-le place s e = go (lt-or-le (length s) place)
   where
     go : (length s < place) ⊎ (place ≤ length s) → place ≤ length s
-    go (inl h) = absurd (clash (e ∙ sym (place-past place s h)))
+    go (inl h) = absurd (true≢false (e ∙ sym (place-past place s h)))
     go (inr h) = h
 
 -- Two strings by their lengths: the first does not fit, or the second, or both do.
@@ -152,8 +148,8 @@ pub scan-answered :
     → x ≡ y → scanOf (drop place s) ≡ scannedOf y d
 scan-answered s place n d x y h e f =
     let l : length {A = ℕ} (replicate n 0) ≡ n = length-replicate n 0 in
-    let g : lent (drop place s) (replicate n 0) (scanOf (drop place s)) ≡ scanOf (drop place s) = rw (le-ltb (length {A = ℕ} (replicate n 0)) (length (drop place s)) (omega (arith, l, length-drop place s)), lent) in
-    sym g ∙ sym (rw (part-from s place) at e) ∙ ap (λ (z : Scan). scannedOf z d) f
+    let g = lent-enough (drop place s) (replicate n 0) (scanOf (drop place s)) (omega (arith, l, length-drop place s)) in
+    g ∙ sym (rw (part-from s place) at e) ∙ ap (λ (z : Scan). scannedOf z d) f
 
 -- two spans that end within k bytes, which stand in the document from the place on, end within the n bytes that it has at most
 ends-within :
@@ -163,9 +159,8 @@ ends-within a b s place n m k h v w = (omega (arith, length-drop place s), omega
 
 -- and so the strings of a link that was found
 pub link-within : (s : List ℕ) (place : ℕ) (d : List ℕ) (n : ℕ) (x : Link) → length s ≤ n → scanOf (drop place s) ≡ linkOf x d → LinkEnds x → LinkWithin n x
-unfolding scanOf
-link-within s place d n (Text2Dest a b m l) h e w = ends-within a b s place n m l h (scan-within rst rst-consuming (drop place s) _ _ _ m l e) w
-link-within s place d n (TextLabel2Dest a b m l) h e w = ends-within a b s place n m l h (scan-within rst rst-consuming (drop place s) _ _ _ m l e) w
-link-within s place d n (Text2Label a b m l) h e w = ends-within a b s place n m l h (scan-within rst rst-consuming (drop place s) _ _ _ m l e) w
-link-within s place d n (Label2Dest a b m l) h e w = ends-within a b s place n m l h (scan-within rst rst-consuming (drop place s) _ _ _ m l e) w
-link-within s place d n (Label2Label a b m l) h e w = ends-within a b s place n m l h (scan-within rst rst-consuming (drop place s) _ _ _ m l e) w
+link-within s place d n (Text2Dest a b m l) h e w = ends-within a b s place n m l h (scan-of-within (drop place s) _ _ _ m l e) w
+link-within s place d n (TextLabel2Dest a b m l) h e w = ends-within a b s place n m l h (scan-of-within (drop place s) _ _ _ m l e) w
+link-within s place d n (Text2Label a b m l) h e w = ends-within a b s place n m l h (scan-of-within (drop place s) _ _ _ m l e) w
+link-within s place d n (Label2Dest a b m l) h e w = ends-within a b s place n m l h (scan-of-within (drop place s) _ _ _ m l e) w
+link-within s place d n (Label2Label a b m l) h e w = ends-within a b s place n m l h (scan-of-within (drop place s) _ _ _ m l e) w

@@ -11,11 +11,10 @@
 --
 -- Laws, proved in the file of proofs/ that is named, for the layers above; those marked * hold for any forms that consume at least one
 -- byte (`Forms.Consuming`), and reStructuredText's do (ScanLaws rst-consuming):
---   scanning ends      ScanLaws scan-inside *, scan-within *: with a link of at least one byte within the text, or with none;
---                      scan-room *: and never for want of room; LinksLaws links-equation *, links-found *, links-none *: the links of a
+--   scanning ends      ScanLaws scan-inside *, scan-within *, scan-of-within: with a link of at least one byte within the text, or
+--                      with none; scan-room *, scan-of-room: and never for want of room; LinksLaws links-equation *, links-found *, links-none *: the links of a
 --                      text are its first and those of what is behind it
 --   in order and apart LinksLaws links-apart *, links-of-apart: each link starts at or after the end of the one before
---   sizes              ShortLaws scan-strings: no string is longer than what was consumed
 --   appending          on s ++ 10 ∷ t, for `Tail t` and `Body s`: AppendingLaws scan-lf: a link found in s is found alike; scan-none-lf:
 --                      where none is, whatever is found starts past the LF; links-lf: the links are those of s and then some that start
 --                      past the LF

@@ -4,7 +4,7 @@
 use Prim.Native.Nat.{ℕ}
 use mathlib.Core.Path.{_≡_}
 use mathlib.Core.List.{List, _++_}
-use mathlib.Core.Bool.{Bool, true, false}
+use mathlib.Core.Bool.{Bool, true, false, not}
 use lib.Dec.{ltb, eqb}
 use lib.ListN.{length, drop}
 use Rattle.rst_bytes.specs.declared.Character.the-variants.{Starts, Nothing}
@@ -76,7 +76,7 @@ abbrev pub isInside : List ℕ → Bool
 isInside s = elim (eqb (length s) 0) [ true ↦ false | false ↦ elim (charOf s) [ Starts n point ↦ false | Nothing ↦ true ] ]
 
 unfoldable pub isPlace : ℕ → List ℕ → Bool
-isPlace place s = elim (ltb (length s) place) [ true ↦ false | false ↦ elim (isInside (drop place s)) [ true ↦ false | false ↦ true ] ]
+isPlace place s = elim (ltb (length s) place) [ true ↦ false | false ↦ not (isInside (drop place s)) ]
 
 -- "Bytes past each string keep what they held."
 abbrev pub filled : List ℕ → List ℕ → List ℕ

@@ -21,7 +21,7 @@
 --
 -- Laws, proved in the file of proofs/ that is named, for the layers above:
 --   within the input   DomainLaws char-within, char-at-within, run-within, outside-within; WordLaws word-within; TrimLaws
---                      trim-within; EscapedLaws taken-le; LineLaws newline-le, line-ending-le, not-line-ending-le, space0-le,
+--                      trim-within; EscapedLaws taken-le; LineLaws bytes-within, newline-le, line-ending-le, not-line-ending-le, space0-le,
 --                      space1-le, multispace0-le; TagLaws starts-le
 --   progress           DomainLaws char-within; EscapedLaws taken-pos; LineLaws newline-pos, line-ending-pos, space1-pos
 --   what follows       DomainLaws char-inside, inside-at: no character starts inside another; EscapedLaws taken-stop: a part

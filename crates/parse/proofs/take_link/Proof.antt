@@ -1,8 +1,8 @@
 -- `take_link` meets its contract. The loop's invariant: the scan from the front is that from i on, i bytes being skipped, and what is
 -- known of backticks holds from i on. A round ends the scan, or passes some bytes: the measure is what is left.
 -- Assumes nothing.
-use Prim.Native.Nat.{ℕ, _+_, _-_, _≤_}
-use mathlib.Core.Path.{_≡_, refl, sym, ap, subst, _∙_}
+use Prim.Native.Nat.{_-_, _≤_}
+use mathlib.Core.Path.{_≡_, refl, sym, subst, _∙_}
 use native.Mathlib.Omega.{arith}
 use lib.ListN.{length, drop}
 use borrow.Author.Needs.{needs}

@@ -1,6 +1,6 @@
 -- `rounds::inline_at` meets its contract: what `embedded` finds is the answer; where it finds none, what `reference_at` finds is.
 -- Assumes nothing.
-use mathlib.Core.Path.{sym, ap, subst, _∙_}
+use mathlib.Core.Path.{ap, subst, _∙_}
 use mathlib.Core.List.{List}
 use Prim.Native.Nat.{ℕ}
 use lib.ListN.{drop}

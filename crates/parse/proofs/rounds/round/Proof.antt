@@ -1,7 +1,7 @@
 -- `rounds::round` meets its contract: LFs, a block, blanks, and then the rest of the round, each as many bytes behind the one before
 -- as that took.
 -- Assumes nothing.
-use Prim.Native.Nat.{ℕ, _+_}
+use Prim.Native.Nat.{_+_}
 use mathlib.Core.Path.{subst, _∙_}
 use native.Mathlib.Omega.{arith}
 use lib.ListN.{drop}
