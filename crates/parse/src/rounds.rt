@@ -11,7 +11,7 @@ use rst_bytes::line::space0;
 ghost use mathlib.Core.Path.{_≡_};
 ghost use mathlib.Core.Bool.{_||_};
 ghost use lib.Dec.{ltb};
-ghost use Prim.Native.Nat.{_+_, _≤_, _<_};
+ghost use Prim.Native.Nat.{_≤_, _<_};
 ghost use lib.ListN.{length, drop};
 ghost use Rattle.rst_bytes.specs.Line.{bytesFrom};
 ghost use Rattle.parse.specs.Link.{scannedOf, Ends, behind};
@@ -20,7 +20,6 @@ ghost use Rattle.parse.specs.Scan.{
   lfsOf,
   blockAt,
   isOpening,
-  openingOf,
   referenceAt,
   followed,
   inlineAt,
@@ -29,13 +28,13 @@ ghost use Rattle.parse.specs.Scan.{
   passes,
   passedOf,
   textRound,
-  blankRound,
   roundOf,
   later,
 };
 ghost use Rattle.parse.specs.Inner.{Shut, stepOf, StepEnds, StepShut};
 
-// A round's answer: the scan's; or the place where the next round starts, and a place up to which no backtick from there on need be tried.
+// A round's answer: the scan's; or the place where the next round starts, and a place up to which no backtick from there on need
+// be tried.
 pub enum Step {
     Stops(Scan),
     Passes(usize, usize),
@@ -156,6 +155,22 @@ fn passed(s: &[u8], i: usize) -> usize
     j + plain(&s[j..])
 }
 
+// What is known of backticks from place i on, once the one at place i was looked at.
+fn shut_from(s: &[u8], i: usize, shut: usize) -> usize
+    requires room { ⌜ i < length (now s) ⌝ }
+    requires shut { ⌜ Shut i shut (now s) ⌝ }
+    ensures { λ r. ⌜ Shut i r (now (s .entry)) ⌝ }
+{
+    if i < shut {
+        return shut;
+    }
+    let n = unclosed(&s[i..]);
+    if n == 0 {
+        return shut;
+    }
+    i + n
+}
+
 // (d) to (f).
 fn text_round(s: &[u8], i: usize, scratch: &mut [u8], spaced: bool, shut: usize) -> Step
     requires room { ⌜ (i ≤ length (now s)) × (length (now s) ≤ length (now scratch)) ⌝ }
@@ -185,22 +200,6 @@ fn text_round(s: &[u8], i: usize, scratch: &mut [u8], spaced: bool, shut: usize)
             Scan::NoRoom => Step::Stops(Scan::NoRoom),
         }
     }
-}
-
-// What is known of backticks from place i on, once the one at place i was looked at.
-fn shut_from(s: &[u8], i: usize, shut: usize) -> usize
-    requires room { ⌜ i < length (now s) ⌝ }
-    requires shut { ⌜ Shut i shut (now s) ⌝ }
-    ensures { λ r. ⌜ Shut i r (now (s .entry)) ⌝ }
-{
-    if i < shut {
-        return shut;
-    }
-    let n = unclosed(&s[i..]);
-    if n == 0 {
-        return shut;
-    }
-    i + n
 }
 
 // (a) to (f).
