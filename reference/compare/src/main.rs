@@ -12,7 +12,6 @@ mod inputs;
 mod met;
 mod parsers;
 mod pieces;
-mod proved;
 mod single;
 mod test;
 

@@ -1,7 +1,7 @@
 //! The parsers of restructured_text.rs.
 
-use crate::proved;
 use crate::test::{Count, Test};
+use compare::proved;
 use driver::forms;
 use driver::parsers::{PARSERS, has_scratch, name, parser};
 use driver::random::Random;

@@ -1,8 +1,8 @@
 //! The pieces of the bytes layer.
 
 use crate::inputs;
-use crate::proved;
 use crate::test::{Count, Test};
+use compare::proved;
 use driver::pieces::{Answer, SCALARS, STOP_SET_COUNT, TEXT_PIECES, piece};
 use driver::random::Random;
 

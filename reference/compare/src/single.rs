@@ -2,8 +2,8 @@
 
 use crate::documents;
 use crate::met::Met;
-use crate::proved;
 use crate::test::{Answered, Count, Test};
+use compare::proved;
 use driver::document::DOCUMENT_MAX;
 use driver::random::Random;
 use driver::single::{Single, take_link_at};

@@ -1,0 +1,3 @@
+//! The proved functions, through the archive.
+
+pub mod proved;
