@@ -23,10 +23,10 @@ use Rattle.restructured_text.specs.Delimited.{closing, backtickedOf}
 use Rattle.restructured_text.proofs.DelimitedLaws.{taken-is, delimited-is, backticked-other}
 use Rattle.restructured_text.proofs.InlineLaws.{text2dest-refused, text-label2dest-refused, text2label-refused}
 use Rattle.parse.specs.Link.{Scanned, nothing, behind, orElse}
-use Rattle.parse.specs.Forms.{tried, rst}
+use Rattle.parse.specs.Forms.{anonymous, named, reference, tried, rst}
 use Rattle.parse.specs.Scan.{isOpening, openingOf, referenceAt, followed, inlineAt}
 use Rattle.parse.specs.Inner.{Shut}
-use Rattle.parse.proofs.FormsLaws.{anonymous, named, reference, tried-next}
+use Rattle.parse.proofs.FormsLaws.{tried-next}
 
 -- nothing is claimed of no places
 pub shut-none : (s : List ℕ) (m n : ℕ) → n ≤ m → Shut m n s

@@ -24,10 +24,10 @@ outcomes : List Case → List Outcome
 unfolding isPair charOf run outsideOf isAsciiWord isWord inRanges wordRanges wordOf isBlank blanks trimOf isEscapable isStop taking escapedOf lineEndingOf lineFrom isSpace isMultispace bytesFrom space1Of startsWith reading gives isDestinationEscapable unblank textOf destinationOf delimitedOf endsWith targetOf insideOf text2targetOf wordLabelOf rawLabelOf simpleLabelOf formOf parseText2labelOf text2destOf textLabel2destOf text2labelOf startOf cutOf furtherOf linesOf blockOf plainNameOf nameOf restOf excluded parseLabel2targetOf namedOf anonymousOf label2targetOf label2destOf label2labelOf isOpening openingOf inlineAt isStart passedOf textRound blankRound lineRound roundOf rounds scanWith scanOf isPlace singleOf times
 outcomes cases = map outcome cases
 
-worked-hold : map outcome worked ≡ map expected worked
+worked-hold : outcomes worked ≡ map expected worked
 unfolding outcomes
 worked-hold = refl
 
-readings-hold : map outcome readings ≡ map expected readings
+readings-hold : outcomes readings ≡ map expected readings
 unfolding outcomes
 readings-hold = refl

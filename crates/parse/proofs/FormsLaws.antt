@@ -18,28 +18,12 @@ use Rattle.restructured_text.proofs.PartLaws.{part-front, put-before}
 use Rattle.restructured_text.proofs.StringsLaws.{lent-enough}
 use Rattle.restructured_text.proofs.TargetLaws.{label2dest-consumed}
 use Rattle.parse.specs.Link.{Kind, Scanned, text2dest, text-label2dest, text2label, label2dest, label2label, found, nothing, behind}
-use Rattle.parse.specs.Forms.{Form, tried, rst}
+use Rattle.parse.specs.Forms.{Form, alias, destination, anonymous, named, reference, tried, rst}
 use Rattle.parse.specs.Scan.{consumedOf, followed}
 
 -- What a parser found, z, by its answer x, which is y: the scratch d is long enough, and was left as d′.
 pub answered : (s d d′ : List ℕ) (z : Link) (x y : Strings) → length s ≤ length d → stringsOf x d′ ≡ lent s d z → x ≡ y → z ≡ stringsOf y d′
 answered s d d′ z x y h e f = lent-enough s d z h ∙ sym e ∙ ap (λ (w : Strings). stringsOf w d′) f
-
--- the forms
-abbrev pub alias : Form
-alias = record { kind = label2label; parser = label2labelOf }
-
-abbrev pub destination : Form
-destination = record { kind = label2dest; parser = label2destOf }
-
-abbrev pub anonymous : Form
-anonymous = record { kind = text2dest; parser = text2destOf }
-
-abbrev pub named : Form
-named = record { kind = text-label2dest; parser = textLabel2destOf }
-
-abbrev pub reference : Form
-reference = record { kind = text2label; parser = text2labelOf }
 
 -- The first form finds a link, or not.
 module _ (f : Form) (fs : List Form) (s : List ℕ) where

@@ -244,6 +244,12 @@ labels =
     -- this is about runs of word characters, not about backticked ones
     ∷ one "`_`_" ⟶ link text2label "_" "_" 0 4
     ∷ one "`a_`_" ⟶ link text2label "a_" "a_" 0 5
+    -- an escaped _ is _, as text, label and name; _ is no special text or name here, nor is _1 a special label
+    ∷ one "`\\_`_" ⟶ link text2label "_" "_" 0 5
+    ∷ one "`x <\\__>`_" ⟶ link text2label "x" "_" 0 10
+    ∷ one ".. _\\_: u" ⟶ link label2dest "_" "u" 0 9
+    ∷ one "`_ <u>`_" ⟶ link text-label2dest "_" "u" 0 8
+    ∷ one "_1_" ⟶ link text2label "_1" "_1" 0 3
     ∷ []
 
 -- Blocks and targets
@@ -307,9 +313,10 @@ blocks =
 -- `take_link`: its rounds, and what follows a link
 abbrev pub scans : List Case
 scans =
-    -- behind a bracket that is skipped, at input start or after a blank, only a reference is tried
+    -- behind a bracket that is skipped, at input or line start or after a blank, only a reference is tried
     one "(`a <u>`_" ⟶ link text2label "a <u>" "a <u>" 1 8
     ∷ one "x (`a <u>`_" ⟶ link text2label "a <u>" "a <u>" 3 8
+    ∷ one "x\n(`a <u>`_" ⟶ link text2label "a <u>" "a <u>" 3 8
     ∷ one "x(`a <u>`_" ⟶ link text-label2dest "a" "u" 2 8
     -- only one byte is skipped
     ∷ one "((a_" ⟶ refused 9 0
@@ -324,6 +331,8 @@ scans =
     -- input start lasts to the first (f), a line start to the end of its round
     ∷ one " .. _b: c" ⟶ link label2dest "b" "c" 0 9
     ∷ one "x .. _b: c" ⟶ refused 9 0
+    ∷ one "x\na_" ⟶ link text2label "a" "a" 2 2
+    ∷ one "\nx .. _b: c" ⟶ refused 9 0
     -- behind a trailing blank (f) takes the LF, which then makes no line start; it takes a CR in its place, and one LF of two
     ∷ one "x \r\n.. _b: c" ⟶ link label2dest "b" "c" 4 8
     ∷ one " \na_" ⟶ refused 9 0

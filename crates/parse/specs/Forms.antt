@@ -37,13 +37,29 @@ tried [] s = nothing
 tried (f ∷ fs) s =
     elim (f .parser s) [ link x y n ↦ found (f .kind) x y 0 n | none ↦ tried fs s | no-room ↦ tried fs s ]
 
+-- the five forms
+abbrev pub alias : Form
+alias = record { kind = label2label; parser = label2labelOf }
+
+abbrev pub destination : Form
+destination = record { kind = label2dest; parser = label2destOf }
+
+abbrev pub anonymous : Form
+anonymous = record { kind = text2dest; parser = text2destOf }
+
+abbrev pub named : Form
+named = record { kind = text-label2dest; parser = textLabel2destOf }
+
+abbrev pub reference : Form
+reference = record { kind = text2label; parser = text2labelOf }
+
 -- (b) "try alias block, then destination block"; (d) "try embedded anonymous, then embedded named"; (e) "try `rst_text2label`";
 -- after a link that is no block "a destination block"
 abbrev pub rst : Forms
 rst =
     record {
-      blocks = record { kind = label2label; parser = label2labelOf } ∷ record { kind = label2dest; parser = label2destOf } ∷ [];
-      embedded = record { kind = text2dest; parser = text2destOf } ∷ record { kind = text-label2dest; parser = textLabel2destOf } ∷ [];
-      references = record { kind = text2label; parser = text2labelOf } ∷ [];
-      unreported = record { kind = label2dest; parser = label2destOf } ∷ [];
+      blocks = alias ∷ destination ∷ [];
+      embedded = anonymous ∷ named ∷ [];
+      references = reference ∷ [];
+      unreported = destination ∷ [];
     }

@@ -22,7 +22,7 @@ use Rattle.parse.specs.Single.{Outcome, refusal, acceptance, handed}
 abbrev pub Shut : ℕ → ℕ → List ℕ → Type 0
 Shut m n s = (i : ℕ) → m ≤ i → i < n → getD s i 0 ≡ 0x60 → (anonym : Bool) → backtickedOf anonym (drop i s) ≡ Refused
 
--- what a step says, with the scratch as it was left: places count from the front of the document
+-- what a step says, with the scratch as it was left: places count from the front of the text
 abbrev pub stepOf : Step → List ℕ → Round
 stepOf (Stops x) scratch = ends (scannedOf x scratch)
 stepOf (Passes next shut) scratch = passes next

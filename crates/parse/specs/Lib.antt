@@ -9,15 +9,18 @@
 -- the front of the buffers (Fronts, part of the contract). Links says what all links of a text are, one after the other. Inner is what
 -- the contracts of private functions speak of. Cases gathers worked cases, which proofs/CasesHold.antt computes.
 --
--- Laws, proved in the file of proofs/ that is named, for the layers above; those marked * hold for any forms that consume at least one
--- byte (`Forms.Consuming`), and reStructuredText's do (ScanLaws rst-consuming):
+-- Laws, proved in the file of proofs/ that is named, where what they say is defined too, for the layers above. Those marked * hold for
+-- any forms that consume at least one byte and no more than there are (`Forms.Consuming`), and reStructuredText's do (ScanLaws
+-- rst-consuming):
+--   progress           ScanLaws round-inside *: a round ends the scan within the text or passes at least one byte of it; later-stops *,
+--                      later-passes *: the scan is that round's link, or goes on behind what it passed
 --   scanning ends      ScanLaws scan-inside *, scan-within *, scan-of-within: with a link of at least one byte within the text, or
---                      with none; scan-room *, scan-of-room: and never for want of room; LinksLaws links-equation *, links-found *, links-none *: the links of a
---                      text are its first and those of what is behind it
+--                      with none; scan-room *, scan-of-room: and never for want of room; LinksLaws links-equation *, links-found *,
+--                      links-none *: the links of a text are its first and those of what is behind it
 --   in order and apart LinksLaws links-apart *, links-of-apart: each link starts at or after the end of the one before
 --   appending          on s ++ 10 ∷ t, for `Tail t` and `Body s`: AppendingLaws scan-lf: a link found in s is found alike; scan-none-lf:
 --                      where none is, whatever is found starts past the LF; links-lf: the links are those of s and then some that start
---                      past the LF
+--                      past the LF; scan-stays *: the first two for any forms that find the same there (`Keeping`)
 pub mod Link
 pub mod Forms
 pub mod Scan

@@ -72,6 +72,7 @@ abbrev pub documentLenMax : ℕ
 documentLenMax = 16384
 
 -- 8, "place past the document or inside a character": in a document of the domain, no character starts inside another
+-- (rst_bytes, DomainLaws inside-at)
 abbrev pub isInside : List ℕ → Bool
 isInside s = elim (eqb (length s) 0) [ true ↦ false | false ↦ elim (charOf s) [ Starts n point ↦ false | Nothing ↦ true ] ]
 
@@ -82,7 +83,8 @@ isPlace place s = elim (ltb (length s) place) [ true ↦ false | false ↦ not (
 abbrev pub filled : List ℕ → List ℕ → List ℕ
 filled x buffer = x ++ drop (length x) buffer
 
--- "7, size needed in bytes": "first string, then second"; 9 "no link from the place to the end"
+-- "7, size needed in bytes": "first string, then second"; 9 "no link from the place to the end". The scanner never lacks room here
+-- (ScanLaws scan-of-room).
 abbrev pub handed : List ℕ → List ℕ → Scanned → Outcome
 handed f g (found kind x y skipped consumed) =
     elim (ltb (length f) (length x)) [

@@ -72,49 +72,25 @@ pub fn hand_over(x: Link, scratch: &[u8], first: &mut [u8], second: &mut [u8]) -
     ensures fronts { λ r. ⌜ Fronts r ⌝ }
 {
     match x {
-        Link::Text2Dest(a, b, skipped, consumed) => match write_both(a, b, scratch, first, second) {
-            Handed::Both(f, g) => Single::Linked(Link::Text2Dest(f, g, skipped, consumed)),
-            Handed::TooShort(n) => Single::Refused(7, n),
+        Link::Text2Dest(a, b, m, n) => match write_both(a, b, scratch, first, second) {
+            Handed::Both(f, g) => Single::Linked(Link::Text2Dest(f, g, m, n)),
+            Handed::TooShort(size) => Single::Refused(7, size),
         },
-        Link::TextLabel2Dest(a, b, skipped, consumed) => match write_both(
-            a,
-            b,
-            scratch,
-            first,
-            second,
-        ) {
-            Handed::Both(f, g) => Single::Linked(Link::TextLabel2Dest(f, g, skipped, consumed)),
-            Handed::TooShort(n) => Single::Refused(7, n),
+        Link::TextLabel2Dest(a, b, m, n) => match write_both(a, b, scratch, first, second) {
+            Handed::Both(f, g) => Single::Linked(Link::TextLabel2Dest(f, g, m, n)),
+            Handed::TooShort(size) => Single::Refused(7, size),
         },
-        Link::Text2Label(a, b, skipped, consumed) => match write_both(
-            a,
-            b,
-            scratch,
-            first,
-            second,
-        ) {
-            Handed::Both(f, g) => Single::Linked(Link::Text2Label(f, g, skipped, consumed)),
-            Handed::TooShort(n) => Single::Refused(7, n),
+        Link::Text2Label(a, b, m, n) => match write_both(a, b, scratch, first, second) {
+            Handed::Both(f, g) => Single::Linked(Link::Text2Label(f, g, m, n)),
+            Handed::TooShort(size) => Single::Refused(7, size),
         },
-        Link::Label2Dest(a, b, skipped, consumed) => match write_both(
-            a,
-            b,
-            scratch,
-            first,
-            second,
-        ) {
-            Handed::Both(f, g) => Single::Linked(Link::Label2Dest(f, g, skipped, consumed)),
-            Handed::TooShort(n) => Single::Refused(7, n),
+        Link::Label2Dest(a, b, m, n) => match write_both(a, b, scratch, first, second) {
+            Handed::Both(f, g) => Single::Linked(Link::Label2Dest(f, g, m, n)),
+            Handed::TooShort(size) => Single::Refused(7, size),
         },
-        Link::Label2Label(a, b, skipped, consumed) => match write_both(
-            a,
-            b,
-            scratch,
-            first,
-            second,
-        ) {
-            Handed::Both(f, g) => Single::Linked(Link::Label2Label(f, g, skipped, consumed)),
-            Handed::TooShort(n) => Single::Refused(7, n),
+        Link::Label2Label(a, b, m, n) => match write_both(a, b, scratch, first, second) {
+            Handed::Both(f, g) => Single::Linked(Link::Label2Label(f, g, m, n)),
+            Handed::TooShort(size) => Single::Refused(7, size),
         },
     }
 }

@@ -1,7 +1,7 @@
 // One round of the scanner: (a) LFs, (b) blocks, (c) blanks, (d) embedded links, (e) references, (f) other bytes.
 //
-// Each function takes the document and a place in it, and a scratch as long as the document. What an earlier round learnt of
-// backticks that are never closed is handed on as a place, so that they are not read again and again.
+// A step takes the text and a place in it; one that tries parsers is also lent a scratch as long as the text. What an earlier round
+// learnt of backticks that are never closed is handed on as a place, so that they are not read again and again.
 use crate::Scan;
 use crate::backtick::unclosed;
 use crate::forms::block;

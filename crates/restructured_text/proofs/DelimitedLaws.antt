@@ -57,7 +57,7 @@ taken-is m n e = ap count e
     count (Taken k) = k
     count Refused = m
 
--- and it has its tags
+-- a delimited part that is taken has its tags
 pub delimited-is : (l : List ℕ) (p q : ℕ) (r s : List ℕ) (n : ℕ) → delimitedOf l p q r s ≡ Taken n → Delimited l p q r s n
 delimited-is l p q r s n e = begins (startsWith l s) refl
   where

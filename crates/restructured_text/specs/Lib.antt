@@ -26,8 +26,8 @@
 --   scratch      no definition says that there is no room: InlineLaws text2dest-room, text-label2dest-room, text2label-room;
 --                BlockLaws block-scratch; TargetLaws label2target-room, label2dest-room, label2label-room
 --   one of two   a block is no alias and destination at once: TargetLaws alias-or-destination, destination-or-alias
---   what follows a backtick that begins no backticked run begins no inline form: InlineLaws text2dest-refused,
---                text-label2dest-refused, text2label-refused; DelimitedLaws backticked-other: nor does another byte begin a run
+--   none         where no backticked run begins there is no inline form: InlineLaws text2dest-refused, text-label2dest-refused,
+--                text2label-refused; DelimitedLaws backticked-other: another byte than a backtick begins no run
 --   appending    on s ++ 10 ∷ t, for `Tail t`: Text2targetLaws text2target-lf; LabelLaws simple-lf, reference-lf; InlineLaws
 --                text2dest-lf, text-label2dest-lf, text2label-lf; for `Tail t` and `Body s`: BlockLaws block-lf; TargetLaws
 --                label2target-lf, label2dest-lf, label2label-lf

@@ -69,7 +69,7 @@ fn nested(len: usize) -> Vec<u8> {
     lines.take(len).collect()
 }
 
-pub const INPUTS: [Input; 24] = [
+pub const INPUTS: [Input; 25] = [
     Input {
         name: "prose",
         make: |n| repeated(PROSE, n),
@@ -153,6 +153,10 @@ pub const INPUTS: [Input; 24] = [
     Input {
         name: "escaped backticks, closed, no link",
         make: |n| between("x`", "\\`", "`_", n),
+    },
+    Input {
+        name: "links between escaped backticks",
+        make: |n| repeated("\\` a_ ", n),
     },
     Input {
         name: "links before '.. ' on one line",

@@ -86,11 +86,12 @@ impl Row {
         let per_byte = |time: f64| time * 1e9 / self.size as f64;
         let rust = Some(self.rust.median);
         println!(
-            "{:>7}{:>6} |{:>7.2} |{}{:>11.2}{}{}{} |{}{:>10.2}{} |{}{}",
+            "{:>7}{:>6} |{:>7.2} |{}{}{:>11.2}{}{}{} |{}{:>10.2}{} |{}{}",
             self.size,
             self.links,
             per_byte(self.pass.median),
             timed(self.ours),
+            value(ratio(Some(self.ours.median), half.map(|half| half.ours.median)), 7, 2),
             self.checks * 1e6,
             value(self.scan().map(|scan| scan * 1e6), 11, 2),
             value(self.scan().map(per_byte), 9, 2),
@@ -134,10 +135,10 @@ fn main() {
         }
     }
     println!(
-        "  bytes links |   pass |     ours µs    ±  checks µs    scan µs  ns/byte growth |     Rust µs    ±   ns/byte growth |     ours     scan"
+        "  bytes links |   pass |     ours µs    ± growth  checks µs    scan µs  ns/byte growth |     Rust µs    ±   ns/byte growth |     ours     scan"
     );
     println!(
-        "              |ns/byte |                                                        |                                   |    /Rust    /Rust"
+        "              |ns/byte |                                                               |                                   |    /Rust    /Rust"
     );
     for input in INPUTS.iter().filter(|input| input.name.contains(&part)) {
         println!("{}", input.name);

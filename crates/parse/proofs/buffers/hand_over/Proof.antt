@@ -18,8 +18,8 @@ write-both-requires c κs = subst (LinkWithin (length (c .before .before .before
 enum-known-f : tie.Need-enum-known-f
 enum-known-f c = search needs
 
-enum-known-n : tie.Need-enum-known-n
-enum-known-n c = search needs
+enum-known-size : tie.Need-enum-known-size
+enum-known-size c = search needs
 
 enum-known-x-2 : tie.Need-enum-known-x-2
 enum-known-x-2 c = search needs
@@ -30,8 +30,8 @@ write-both-requires-2 c κs = subst (LinkWithin (length (c .before .before .befo
 enum-known-f-2 : tie.Need-enum-known-f-2
 enum-known-f-2 c = search needs
 
-enum-known-n-2 : tie.Need-enum-known-n-2
-enum-known-n-2 c = search needs
+enum-known-size-2 : tie.Need-enum-known-size-2
+enum-known-size-2 c = search needs
 
 enum-known-x-3 : tie.Need-enum-known-x-3
 enum-known-x-3 c = search needs
@@ -42,8 +42,8 @@ write-both-requires-3 c κs = subst (LinkWithin (length (c .before .before .befo
 enum-known-f-3 : tie.Need-enum-known-f-3
 enum-known-f-3 c = search needs
 
-enum-known-n-3 : tie.Need-enum-known-n-3
-enum-known-n-3 c = search needs
+enum-known-size-3 : tie.Need-enum-known-size-3
+enum-known-size-3 c = search needs
 
 enum-known-x-4 : tie.Need-enum-known-x-4
 enum-known-x-4 c = search needs
@@ -54,8 +54,8 @@ write-both-requires-4 c κs = subst (LinkWithin (length (c .before .before .befo
 enum-known-f-4 : tie.Need-enum-known-f-4
 enum-known-f-4 c = search needs
 
-enum-known-n-4 : tie.Need-enum-known-n-4
-enum-known-n-4 c = search needs
+enum-known-size-4 : tie.Need-enum-known-size-4
+enum-known-size-4 c = search needs
 
 enum-known-x-5 : tie.Need-enum-known-x-5
 enum-known-x-5 c = search needs
@@ -66,8 +66,8 @@ write-both-requires-5 c κs = subst (LinkWithin (length (c .before .before .befo
 enum-known-f-5 : tie.Need-enum-known-f-5
 enum-known-f-5 c = search needs
 
-enum-known-n-5 : tie.Need-enum-known-n-5
-enum-known-n-5 c = search needs
+enum-known-size-5 : tie.Need-enum-known-size-5
+enum-known-size-5 c = search needs
 
 same-length : tie.Need-same-length
 same-length c = search needs
@@ -91,7 +91,7 @@ returns-2 : tie.Need-returns-2
 returns-2 c =
     let w = c .before .before .before .before .before .before .before .before .before .before .before .before .before .before .before .before .args in
     let v = c .before .before .before .before .before .before .before .before .before .before .before .x .given .0 in
-    handed-over (w .scratch .now) (w .first .now) (w .second .now) _ _ _ _ _ _ text2dest (v .0) (v .1 .0) (v .1 .1 .0) (v .1 .1 .1 .0) (c .before .before .before .before .before .before .before .before .before .before .before .x .given .1) refl (c .before .n .given .1) (c .before .before .before .before .before .before .before .write-both .ensures .0) (c .before .before .before .before .before .before .before .write-both .ensures .1)
+    handed-over (w .scratch .now) (w .first .now) (w .second .now) _ _ _ _ _ _ text2dest (v .0) (v .1 .0) (v .1 .1 .0) (v .1 .1 .1 .0) (c .before .before .before .before .before .before .before .before .before .before .before .x .given .1) refl (c .before .size .given .1) (c .before .before .before .before .before .before .before .write-both .ensures .0) (c .before .before .before .before .before .before .before .write-both .ensures .1)
 
 same-length-5 : tie.Need-same-length-5
 same-length-5 c = search needs
@@ -115,7 +115,7 @@ returns-4 : tie.Need-returns-4
 returns-4 c =
     let w = c .before .before .before .before .before .before .before .before .before .before .before .before .before .before .before .before .args in
     let v = c .before .before .before .before .before .before .before .before .before .before .before .x2 .given .0 in
-    handed-over (w .scratch .now) (w .first .now) (w .second .now) _ _ _ _ _ _ text-label2dest (v .0) (v .1 .0) (v .1 .1 .0) (v .1 .1 .1 .0) (c .before .before .before .before .before .before .before .before .before .before .before .x2 .given .1) refl (c .before .n2 .given .1) (c .before .before .before .before .before .before .before .write-both2 .ensures .0) (c .before .before .before .before .before .before .before .write-both2 .ensures .1)
+    handed-over (w .scratch .now) (w .first .now) (w .second .now) _ _ _ _ _ _ text-label2dest (v .0) (v .1 .0) (v .1 .1 .0) (v .1 .1 .1 .0) (c .before .before .before .before .before .before .before .before .before .before .before .x2 .given .1) refl (c .before .size2 .given .1) (c .before .before .before .before .before .before .before .write-both2 .ensures .0) (c .before .before .before .before .before .before .before .write-both2 .ensures .1)
 
 same-length-9 : tie.Need-same-length-9
 same-length-9 c = search needs
@@ -139,7 +139,7 @@ returns-6 : tie.Need-returns-6
 returns-6 c =
     let w = c .before .before .before .before .before .before .before .before .before .before .before .before .before .before .before .before .args in
     let v = c .before .before .before .before .before .before .before .before .before .before .before .x3 .given .0 in
-    handed-over (w .scratch .now) (w .first .now) (w .second .now) _ _ _ _ _ _ text2label (v .0) (v .1 .0) (v .1 .1 .0) (v .1 .1 .1 .0) (c .before .before .before .before .before .before .before .before .before .before .before .x3 .given .1) refl (c .before .n3 .given .1) (c .before .before .before .before .before .before .before .write-both3 .ensures .0) (c .before .before .before .before .before .before .before .write-both3 .ensures .1)
+    handed-over (w .scratch .now) (w .first .now) (w .second .now) _ _ _ _ _ _ text2label (v .0) (v .1 .0) (v .1 .1 .0) (v .1 .1 .1 .0) (c .before .before .before .before .before .before .before .before .before .before .before .x3 .given .1) refl (c .before .size3 .given .1) (c .before .before .before .before .before .before .before .write-both3 .ensures .0) (c .before .before .before .before .before .before .before .write-both3 .ensures .1)
 
 same-length-13 : tie.Need-same-length-13
 same-length-13 c = search needs
@@ -163,7 +163,7 @@ returns-8 : tie.Need-returns-8
 returns-8 c =
     let w = c .before .before .before .before .before .before .before .before .before .before .before .before .before .before .before .before .args in
     let v = c .before .before .before .before .before .before .before .before .before .before .before .x4 .given .0 in
-    handed-over (w .scratch .now) (w .first .now) (w .second .now) _ _ _ _ _ _ label2dest (v .0) (v .1 .0) (v .1 .1 .0) (v .1 .1 .1 .0) (c .before .before .before .before .before .before .before .before .before .before .before .x4 .given .1) refl (c .before .n4 .given .1) (c .before .before .before .before .before .before .before .write-both4 .ensures .0) (c .before .before .before .before .before .before .before .write-both4 .ensures .1)
+    handed-over (w .scratch .now) (w .first .now) (w .second .now) _ _ _ _ _ _ label2dest (v .0) (v .1 .0) (v .1 .1 .0) (v .1 .1 .1 .0) (c .before .before .before .before .before .before .before .before .before .before .before .x4 .given .1) refl (c .before .size4 .given .1) (c .before .before .before .before .before .before .before .write-both4 .ensures .0) (c .before .before .before .before .before .before .before .write-both4 .ensures .1)
 
 same-length-17 : tie.Need-same-length-17
 same-length-17 c = search needs
@@ -187,7 +187,7 @@ returns-10 : tie.Need-returns-10
 returns-10 c =
     let w = c .before .before .before .before .before .before .before .before .before .before .before .before .before .before .before .before .args in
     let v = c .before .before .before .before .before .before .before .before .before .before .before .x5 .given .0 in
-    handed-over (w .scratch .now) (w .first .now) (w .second .now) _ _ _ _ _ _ label2label (v .0) (v .1 .0) (v .1 .1 .0) (v .1 .1 .1 .0) (c .before .before .before .before .before .before .before .before .before .before .before .x5 .given .1) refl (c .before .n5 .given .1) (c .before .before .before .before .before .before .before .write-both5 .ensures .0) (c .before .before .before .before .before .before .before .write-both5 .ensures .1)
+    handed-over (w .scratch .now) (w .first .now) (w .second .now) _ _ _ _ _ _ label2label (v .0) (v .1 .0) (v .1 .1 .0) (v .1 .1 .1 .0) (c .before .before .before .before .before .before .before .before .before .before .before .x5 .given .1) refl (c .before .size5 .given .1) (c .before .before .before .before .before .before .before .write-both5 .ensures .0) (c .before .before .before .before .before .before .before .write-both5 .ensures .1)
 
 pub hand-over-spec : {M : Type 1} → statement M
 hand-over-spec =
@@ -196,23 +196,23 @@ hand-over-spec =
     enum-known-x
     write-both-requires
     enum-known-f
-    enum-known-n
+    enum-known-size
     enum-known-x-2
     write-both-requires-2
     enum-known-f-2
-    enum-known-n-2
+    enum-known-size-2
     enum-known-x-3
     write-both-requires-3
     enum-known-f-3
-    enum-known-n-3
+    enum-known-size-3
     enum-known-x-4
     write-both-requires-4
     enum-known-f-4
-    enum-known-n-4
+    enum-known-size-4
     enum-known-x-5
     write-both-requires-5
     enum-known-f-5
-    enum-known-n-5
+    enum-known-size-5
     same-length
     same-length-2
     returns
