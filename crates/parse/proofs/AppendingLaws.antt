@@ -23,18 +23,10 @@ use Rattle.restructured_text.proofs.TargetLaws.{label2dest-lf, label2label-lf}
 use Rattle.parse.specs.Link.{Kind, Scanned, found, nothing, behind, orElse}
 use Rattle.parse.specs.Forms.{Form, Forms, Consuming, tried, rst}
 use Rattle.parse.specs.Scan.{Round, ends, passes, later, isLf, lfsOf, blockAt, isOpening, openingOf, referenceAt, consumedOf, followed, inlineAt, isStart, isPlain, passedOf, textRound, blankRound, lineRound, roundOf, rounds, scanWith, scanOf}
-use Rattle.parse.specs.Links.{Placed, linksFrom, linksOf, Apart}
-use Rattle.parse.proofs.ScanLaws.{Inside, RoundInside, split, opening-le, block-inside, either-inside, inline-inside, line-inside, round-inside, rounds-skip, rounds-inside, scan-inside, rst-consuming}
-use Rattle.parse.proofs.LinksLaws.{placed, linksIn, links-skip, links-apart}
-
--- What the forms of a list find stays as it is.
-abbrev pub AllKeeping : List ℕ → List Form → Type 0
-AllKeeping t [] = Unit {0}
-AllKeeping t (f ∷ fs) = ((s : List ℕ) → Body s → f .parser (s ++ 10 ∷ t) ≡ f .parser s) × AllKeeping t fs
-
-abbrev pub Keeping : List ℕ → Forms → Type 0
-Keeping t forms =
-    AllKeeping t (forms .blocks) × AllKeeping t (forms .embedded) × AllKeeping t (forms .references) × AllKeeping t (forms .unreported)
+use Rattle.parse.specs.Links.{Placed, placed, linksFrom, linksOf}
+use Rattle.parse.specs.Laws.{Inside, RoundInside, Apart, AllKeeping, Keeping, Later, Stays, AllBehind, Continues}
+use Rattle.parse.proofs.ScanLaws.{split, opening-le, block-inside, either-inside, inline-inside, line-inside, round-inside, rounds-skip, rounds-inside, scan-inside, rst-consuming}
+use Rattle.parse.proofs.LinksLaws.{linksIn, links-skip, links-apart}
 
 -- so it is for reStructuredText
 pub rst-keeping : (t : List ℕ) → Tail t → Keeping t rst
@@ -44,12 +36,6 @@ rst-keeping t h = (
   (λ s b. text2label-lf s t h, tt),
   (λ s b. label2dest-lf s t h b, tt),
 )
-
--- a link behind place p, if any
-abbrev pub Later : ℕ → Scanned → Type 0
-Later p (found k x y skipped consumed) = p < skipped
-Later p nothing = Unit {0}
-Later p Scanned.no-room = Unit {0}
 
 -- a round that finds nothing up to place p
 abbrev Past : ℕ → Round → Type 0
@@ -62,12 +48,6 @@ Keeps p (ends (found k x y m n)) r = r ≡ ends (found k x y m n)
 Keeps p (ends nothing) r = Past p r
 Keeps p (ends Scanned.no-room) r = ⊥
 Keeps p (passes n) r = r ≡ passes n
-
--- the same link; or there was none, and now there is none up to place p
-abbrev pub Stays : ℕ → Scanned → Scanned → Type 0
-Stays p (found k x y m n) z = z ≡ found k x y m n
-Stays p nothing z = Later p z
-Stays p Scanned.no-room z = ⊥
 
 behind-later : (n p : ℕ) (x : Scanned) → Later p x → Later (n + p) (behind n x)
 behind-later n p (found k x y i c) w = omega arith
@@ -106,15 +86,6 @@ none-left (ends (found k x y i c)) w = absurd (omega arith)
 none-left (ends nothing) w = refl
 none-left (ends Scanned.no-room) w = absurd w
 none-left (passes m) w = absurd (omega arith)
-
--- every link starts behind place p
-abbrev pub AllBehind : ℕ → List Placed → Type 0
-AllBehind p [] = Unit {0}
-AllBehind p (x ∷ xs) = (p < x .place) × AllBehind p xs
-
--- the links xs, and then such links
-abbrev pub Continues : ℕ → List Placed → List Placed → Type 0
-Continues p xs ys = (u : List Placed) × (ys ≡ xs ++ u) × AllBehind p u
 
 apart-behind : (n m p : ℕ) (xs : List Placed) → p < n → Apart n m xs → AllBehind p xs
 apart-behind n m p [] h w = tt

@@ -10,14 +10,11 @@ use lib.ListN.{length, drop}
 use Rattle.parse.specs.Link.{Kind, Scanned, found, nothing, no-room}
 use Rattle.parse.specs.Forms.{Forms, Consuming, rst}
 use Rattle.parse.specs.Scan.{rounds, scanWith}
-use Rattle.parse.specs.Links.{Placed, linksFrom, linksOf, Apart}
-use Rattle.parse.proofs.ScanLaws.{Inside, scan-inside, rst-consuming}
+use Rattle.parse.specs.Links.{Placed, placed, linksFrom, linksOf, linksBy}
+use Rattle.parse.specs.Laws.{Inside, Apart}
+use Rattle.parse.proofs.ScanLaws.{scan-inside, rst-consuming}
 
--- a link that was found from place n on
-abbrev pub placed : ℕ → Kind → List ℕ → List ℕ → ℕ → ℕ → Placed
-placed n kind x y skipped consumed = record { place = n + skipped; kind = kind; first = x; second = y; consumed = consumed }
-
--- it, and those of what is left behind it, or none: as `linksFrom` has it, l behind one byte, and by the whole text s
+-- a link and those of what is left behind it, or none, as `linksFrom` has it: l is the text behind one byte
 abbrev pub linksIn : Forms → ℕ → List ℕ → Scanned → List Placed
 linksIn forms n l z =
     elim z [
@@ -25,12 +22,6 @@ linksIn forms n l z =
       | nothing ↦ []
       | no-room ↦ []
     ]
-
-abbrev pub linksBy : Forms → ℕ → List ℕ → Scanned → List Placed
-linksBy forms n s (found kind x y skipped consumed) =
-    placed n kind x y skipped consumed ∷ linksFrom forms 0 (n + (skipped + consumed)) (drop (skipped + consumed) s)
-linksBy forms n s nothing = []
-linksBy forms n s no-room = []
 
 -- the bytes that belong to the link before are skipped
 pub links-skip : (forms : Forms) (s : List ℕ) (k n : ℕ) → linksFrom forms k n s ≡ linksFrom forms 0 (n + k) (drop k s)

@@ -22,7 +22,8 @@ use Rattle.parse.specs.declared.Scan.{Scan}
 use Rattle.parse.specs.declared.Scan.the-variants.{Found, NotFound, NoRoom}
 use Rattle.parse.specs.Link.{Kind, Scanned, found, nothing, no-room, behind, orElse, linkOf, scannedOf, lent}
 use Rattle.parse.specs.Forms.{Forms, tried, rst}
-use Rattle.parse.proofs.ScanLaws.{Inside, inline-inside, later-stops, later-passes, rst-consuming}
+use Rattle.parse.specs.Laws.{Inside}
+use Rattle.parse.proofs.ScanLaws.{inline-inside, later-stops, later-passes, rst-consuming}
 use Rattle.parse.specs.Scan.{
   Round,
   ends,

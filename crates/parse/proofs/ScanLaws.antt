@@ -21,18 +21,8 @@ use Rattle.restructured_text.proofs.InlineLaws.{text2dest-consumed, text-label2
 use Rattle.restructured_text.proofs.TargetLaws.{label2dest-consumed, label2label-consumed}
 use Rattle.parse.specs.Link.{Kind, Scanned, found, nothing, behind, orElse}
 use Rattle.parse.specs.Forms.{Form, Forms, AllConsuming, Consuming, tried, rst}
+use Rattle.parse.specs.Laws.{Inside, RoundInside}
 use Rattle.parse.specs.Scan.{Round, ends, passes, later, isLf, lfsOf, blockAt, isOpening, openingOf, referenceAt, consumedOf, followed, inlineAt, isPlain, passedOf, textRound, blankRound, lineRound, roundOf, rounds, scanWith, scanOf}
-
--- a link of at least one byte, that starts at place n or behind it and ends by place m; and there is always room to look
-abbrev pub Inside : ℕ → ℕ → Scanned → Type 0
-Inside n m (found k x y skipped consumed) = (n ≤ skipped) × (0 < consumed) × (skipped + consumed ≤ m)
-Inside n m nothing = Unit {0}
-Inside n m Scanned.no-room = ⊥
-
--- such a link, or some of the bytes up to place m are passed
-abbrev pub RoundInside : ℕ → Round → Type 0
-RoundInside m (ends x) = Inside 0 m x
-RoundInside m (passes n) = (0 < n) × (n ≤ m)
 
 -- which of the two a round is, and what it says
 abbrev isPass : Round → Bool

@@ -9,8 +9,8 @@
 -- the front of the buffers (Fronts, part of the contract). Links says what all links of a text are, one after the other. Inner is what
 -- the contracts of private functions speak of. Cases gathers worked cases, which proofs/CasesHold.antt computes.
 --
--- Laws, proved in the file of proofs/ that is named, where what they say is defined too, for the layers above. Those marked * hold for
--- any forms that consume at least one byte and no more than there are (`Forms.Consuming`), and reStructuredText's do (ScanLaws
+-- Laws, proved in the file of proofs/ that is named, for the layers above; Laws defines what they speak of. Those marked * hold for any
+-- forms that consume at least one byte and no more than there are (`Forms.Consuming`), and reStructuredText's do (ScanLaws
 -- rst-consuming):
 --   progress           ScanLaws round-inside *: a round ends the scan within the text or passes at least one byte of it; later-stops *,
 --                      later-passes *: the scan is that round's link, or goes on behind what it passed
@@ -25,6 +25,7 @@ pub mod Link
 pub mod Forms
 pub mod Scan
 pub mod Links
+pub mod Laws
 pub mod Single
 pub mod Inner
 pub mod Cases
