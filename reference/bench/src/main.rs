@@ -91,7 +91,11 @@ impl Row {
             self.links,
             per_byte(self.pass.median),
             timed(self.ours),
-            value(ratio(Some(self.ours.median), half.map(|half| half.ours.median)), 7, 2),
+            value(
+                ratio(Some(self.ours.median), half.map(|half| half.ours.median)),
+                7,
+                2
+            ),
             self.checks * 1e6,
             value(self.scan().map(|scan| scan * 1e6), 11, 2),
             value(self.scan().map(per_byte), 9, 2),

@@ -1,7 +1,6 @@
 //! Documents for the single-link call: all short ones, cases, limits, drawn ones.
 
 use crate::inputs::limit_bytes;
-use driver::cases::{reading, scope};
 use driver::exhaustive::{BLOCKS, BYTES, INLINE, LINES, Sequences};
 use driver::random::Random;
 use driver::{forms, generate, limits};
@@ -60,14 +59,7 @@ pub fn domain_bytes() -> impl Iterator<Item = Vec<u8>> {
 
 /// The documents of 01's cases and its readings'.
 pub fn cases() -> Vec<Vec<u8>> {
-    let lists = [
-        scope::proved(),
-        scope::beside(),
-        scope::worked(),
-        reading::sentences(),
-        reading::sizes(),
-    ];
-    lists.into_iter().flatten().map(|case| case.doc).collect()
+    driver::cases::documents().map(|case| case.doc).collect()
 }
 
 /// Documents near every limit.

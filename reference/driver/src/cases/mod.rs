@@ -192,3 +192,15 @@ fn links_alike(count: usize, step: usize, rest: &str) -> String {
     }
     shown
 }
+
+/// All cases of 01 and its readings, on documents.
+pub fn documents() -> impl Iterator<Item = Case> {
+    let lists = [
+        scope::proved(),
+        scope::beside(),
+        scope::worked(),
+        reading::sentences(),
+        reading::sizes(),
+    ];
+    lists.into_iter().flatten()
+}

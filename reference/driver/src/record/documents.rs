@@ -1,7 +1,7 @@
 //! `documents.bin`: answers of the two public calls.
 
 use super::{File, SEED};
-use crate::cases::{Call, Case, OUTPUT_ENOUGH, STRING_ENOUGH, reading, scope};
+use crate::cases::{self, Call, Case, OUTPUT_ENOUGH, STRING_ENOUGH, reading, scope};
 use crate::document::{BYTES_MIN, NUMBERS_MIN, document};
 use crate::exhaustive::{BLOCKS, BYTES, INLINE, LINES, Sequences};
 use crate::random::Random;
@@ -104,14 +104,7 @@ fn short_one(doc: &[u8], place: usize, in_first: bool) -> Option<Call> {
 /// Every case of the papers whose document is short, with its own call and the
 /// calls with areas that just suffice or just do not.
 fn case_entries(entries: &mut Vec<Entry>) {
-    let lists = [
-        scope::proved(),
-        scope::beside(),
-        scope::worked(),
-        reading::sentences(),
-        reading::sizes(),
-    ];
-    for case in lists.into_iter().flatten() {
+    for case in cases::documents() {
         if case.doc.len() > CASE_LONGEST {
             continue;
         }
