@@ -4,7 +4,7 @@
 use Prim.Native.Nat.{ℕ, _+_, _-_, _<_, _≤_}
 use mathlib.Core.Path.{_≡_, refl, sym, ap, _∙_}
 use mathlib.Core.List.{List, []}
-use mathlib.Core.Bool.{Bool, true, false, _||_, or-false}
+use mathlib.Core.Bool.{Bool, true, false, _||_, or-false, or-true}
 use native.Mathlib.Omega.{arith}
 use native.Mathlib.Nat.{add-assoc, add-zero}
 use lib.Dec.{ltb, eqb}
@@ -23,7 +23,7 @@ use Rattle.parse.specs.declared.Scan.the-variants.{Found, NotFound, NoRo
 use Rattle.parse.specs.Link.{Kind, Scanned, found, nothing, no-room, behind, orElse, linkOf, scannedOf, lent}
 use Rattle.parse.specs.Forms.{Forms, tried, rst}
 use Rattle.parse.specs.Laws.{Inside}
-use Rattle.parse.proofs.ScanLaws.{inline-inside, later-stops, later-passes, rst-consuming}
+use Rattle.parse.proofs.ScanLaws.{passOf, inline-inside, later-stops, later-passes, rst-consuming}
 use Rattle.parse.specs.Scan.{
   Round,
   ends,
@@ -218,10 +218,7 @@ passed-at s i h = rw (drop-next s i h) (ap passes (omega arith))
 
 -- and so no byte is read again
 pub passed-le : (s : List ℕ) (i j : ℕ) → i < length s → later i (passedOf (drop i s)) ≡ passes j → i ≤ j
-passed-le s i j h e = omega (arith, passes-is _ _ (sym (passed-at s i h) ∙ e))
-  where
-    passes-is : (m n : ℕ) → passes m ≡ passes n → m ≡ n
-    passes-is m n e = cc
+passed-le s i j h e = omega (arith, ap passOf (sym (passed-at s i h) ∙ e))
 
 -- (a) LFs, and then (b) to (f) behind them
 round-at : (start : Bool) (s : List ℕ) (i : ℕ) → let n = lfsOf (drop i s) in later i (roundOf rst start (drop i s)) ≡ later (i + n) (lineRound rst (start || ltb 0 n) (drop (i + n) s))
@@ -250,10 +247,6 @@ blank-at line s a = go (eqb m 0) refl
   where
     m : ℕ
     m = space0Of (drop a s)
-
-    or-true : (b : Bool) → (b || true) ≡ true
-    or-true true = refl
-    or-true false = refl
 
     at : (n : ℕ) (spaced : Bool) → Round
     at n spaced = later n (textRound rst spaced (drop n s))

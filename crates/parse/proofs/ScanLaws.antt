@@ -33,7 +33,7 @@ abbrev endOf : Round → Scanned
 endOf (ends x) = x
 endOf (passes n) = nothing
 
-abbrev passOf : Round → ℕ
+abbrev pub passOf : Round → ℕ
 passOf (ends x) = 0
 passOf (passes n) = n
 
