@@ -1,0 +1,16 @@
+pub mod RowsLaws
+pub mod AreasLaws
+pub mod NamesLaws
+pub mod CollectLaws
+pub mod LabelLaws
+pub mod AddLaws
+pub mod ScannedLaws
+pub mod ReadingLaws
+pub mod ResolveLaws
+pub mod WalkLaws
+pub mod RecordLaws
+pub mod ReferenceLaws
+pub mod CollectingLaws
+pub mod OrderLaws
+pub mod DocumentLaws
+pub mod CasesHold

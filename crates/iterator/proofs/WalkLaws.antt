@@ -1,0 +1,397 @@
+-- The rows of looking up and of the walk through the aliases: what the rows that are left say after a hit, after a miss, and wrapped at
+-- the end.
+-- Assumes nothing.
+use Prim.Native.Nat.{ℕ, zero, suc, _+_, _-_, _*_, _<_, _≤_}
+use native.Mathlib.Omega.{arith}
+use mathlib.Core.Path.{_≡_, refl, ap, ap₂, sym, subst, subst⁻¹, _∙_}
+use mathlib.Core.List.{List, [], _∷_, _++_, map, append-assoc, append-nil}
+use mathlib.Core.Bool.{true, false}
+use lib.Dec.{eqb}
+use lib.ListN.{length, length-append, length-map}
+use borrow.Author.Tests.{eqb-true, eqb-false, eq-eqb, ne-eqb}
+use Rattle.rst_bytes.proofs.TestLaws.{by-test}
+use Rattle.restructured_text.specs.declared.Span.{Span}
+use Rattle.restructured_text.specs.Strings.{part}
+use Rattle.iterator.specs.declared.rows.PairRow.{PairRow}
+use Rattle.iterator.specs.declared.resolve.Lookup.{Lookup}
+use Rattle.iterator.specs.declared.resolve.Lookup.the-variants.{Has, NotThere}
+use Rattle.iterator.specs.declared.resolve.Walk.{Walk}
+use Rattle.iterator.specs.Collect.{Pair}
+use Rattle.iterator.specs.Resolve.{same, has, none, lookup, resolveAliases}
+use Rattle.iterator.specs.Rows.{
+  pairAt,
+  putPair,
+  pairRows,
+  pairOf,
+  pairsOf,
+  destinationsAt,
+  aliasesAt,
+  room,
+  PairWithin,
+  PairsWithin,
+}
+use Rattle.iterator.specs.Inner.{
+  Roomy,
+  Lookable,
+  foundOf,
+  LookupWithin,
+  goesOn,
+  leftOf,
+  queueOf,
+  walkOf,
+  wrap,
+  Walking,
+  Tryable,
+  stepsLeft,
+  LinksKept,
+  PairSmall,
+  AliasesHeld,
+  AliasesResolved,
+}
+use Rattle.iterator.proofs.RowsLaws.{
+  length-put-pair,
+  pairs-snoc,
+  pairs-put,
+  pairs-pair-after,
+  pairs-pair-before,
+  links-pair-after,
+  pairs-within-snoc,
+  pairs-within-at,
+  pair-small,
+  map-snoc,
+}
+use Rattle.iterator.proofs.ResolveLaws.{lookup-here, lookup-past, goes-start, goes-stop, goes-miss, goes-hit}
+
+pub length-pairs : (n a : ℕ) (t : List ℕ) → length (pairRows n a t) ≡ n
+unfolding pairRows
+length-pairs zero a t = refl
+length-pairs (suc n) a t = ap suc (length-pairs n (a + 4) t)
+
+-- Looking up, from the last row back: of the first i rows the last is r
+module _ (t w : List ℕ) (name : Span) (i : ℕ) (r : PairRow) where
+  last-row :
+      0 < i → r ≡ pairAt t (destinationsAt + 4 * (i - 1))
+      → pairsOf i destinationsAt t w ≡ pairsOf (i - 1) destinationsAt t w ++ pairOf w r ∷ []
+  last-row h e =
+      let f : i ≡ (i - 1) + 1 = omega arith in
+      ap (λ n. pairsOf n destinationsAt t w) f
+      ∙ ap (map (pairOf w)) (pairs-snoc (i - 1) destinationsAt t)
+      ∙ map-snoc (pairOf w) (pairRows (i - 1) destinationsAt t) (pairAt t (destinationsAt + 4 * (i - 1)))
+      ∙ ap (λ (x : PairRow). pairsOf (i - 1) destinationsAt t w ++ pairOf w x ∷ []) (sym e)
+
+  pub row-same :
+      0 < i → r ≡ pairAt t (destinationsAt + 4 * (i - 1)) → same (part (r .name) w) (part name w) ≡ true
+      → lookup (part name w) (pairsOf i destinationsAt t w) ≡ has (part (r .to) w)
+  row-same h e f =
+      ap (lookup (part name w)) (last-row h e) ∙ lookup-here (part name w) (pairOf w r) (pairsOf (i - 1) destinationsAt t w) f
+
+  pub row-other :
+      0 < i → r ≡ pairAt t (destinationsAt + 4 * (i - 1)) → same (part (r .name) w) (part name w) ≡ false
+      → lookup (part name w) (pairsOf i destinationsAt t w) ≡ lookup (part name w) (pairsOf (i - 1) destinationsAt t w)
+  row-other h e f =
+      ap (lookup (part name w)) (last-row h e) ∙ lookup-past (part name w) (pairOf w r) (pairsOf (i - 1) destinationsAt t w) f
+
+-- a row that is looked at, with its strings in the work bytes
+pub row-within :
+    (n : ℕ) (t : List ℕ) (i : ℕ) (r : PairRow) → 0 < i → i ≤ n → r ≡ pairAt t (destinationsAt + 4 * (i - 1))
+    → PairsWithin room (pairRows n destinationsAt t) → PairWithin room r
+row-within n t i r h g e b = subst⁻¹ (PairWithin room) e (pairs-within-at room n destinationsAt (i - 1) t (omega arith) b)
+
+-- nothing is stored
+pub row-none : (t w name : List ℕ) (i : ℕ) → i ≡ 0 → lookup name (pairsOf i destinationsAt t w) ≡ none
+unfolding lookup pairRows
+row-none t w name i e = rw e
+
+-- the walk with one alias passed more, and with one left out whose target's destination was stored
+abbrev pub passedOne : Walk → Walk
+passedOne v =
+    record { passed = v .passed + 1; next = v .next + 1; end = v .end; misses = v .misses + 1; destinations = v .destinations }
+
+abbrev pub storedOne : Walk → Walk
+storedOne v =
+    record { passed = v .passed; next = v .next + 1; end = v .end; misses = 0; destinations = v .destinations + 1 }
+
+-- what trying an alias keeps: t and t′ are the work numbers before and after, v and r the walk
+abbrev pub Tried : List ℕ → List ℕ → List ℕ → Walk → Walk → Type 0
+Tried t t′ w v r = (walkOf t′ w r ≡ walkOf t w v) × (Walking t′ w r × ((stepsLeft r < stepsLeft v) × LinksKept t t′))
+
+-- the rows from the next alias on, and those behind it
+abbrev aheadRows : List ℕ → Walk → List PairRow
+aheadRows t v = pairRows (v .end - v .next) (aliasesAt + 4 * v .next) t
+
+abbrev behindRows : List ℕ → Walk → List PairRow
+behindRows t v = pairRows (v .end - (v .next + 1)) (aliasesAt + 4 * (v .next + 1)) t
+
+-- the aliases that are left without the next
+abbrev restOf : List ℕ → List ℕ → Walk → List Pair
+restOf t w v = map (pairOf w) (behindRows t v) ++ pairsOf (v .passed) aliasesAt t w
+
+-- the names with a destination
+abbrev storedIn : List ℕ → List ℕ → Walk → List Pair
+storedIn t w v = pairsOf (v .destinations) destinationsAt t w
+
+-- as many as the walk says are left
+pub length-queue : (t w : List ℕ) (v : Walk) → length (queueOf t w v) ≡ leftOf v
+length-queue t w v = simp (length-append, length-map, length-pairs) (omega arith)
+
+-- the next row, and those behind it
+rows-cons : (t : List ℕ) (v : Walk) → v .next < v .end → aheadRows t v ≡ pairAt t (aliasesAt + 4 * v .next) ∷ behindRows t v
+unfolding pairRows
+rows-cons t v h =
+    let e : v .end - v .next ≡ suc (v .end - (v .next + 1)) = omega arith in
+    let f : aliasesAt + 4 * (v .next + 1) ≡ aliasesAt + 4 * v .next + 4 = omega arith in
+    rw (e, f)
+
+-- An alias that is tried: its row is x
+module _ (t w : List ℕ) (v : Walk) (p : Tryable t w v) (x : PairRow) (e : x ≡ pairAt t (aliasesAt + 4 * v .next)) where
+  rows-next : aheadRows t v ≡ x ∷ behindRows t v
+  rows-next = rows-cons t v (p .1 .0) ∙ ap (λ (y : PairRow). y ∷ behindRows t v) (sym e)
+
+  within-next : PairWithin room x × PairsWithin room (behindRows t v)
+  unfolding PairsWithin
+  within-next = subst (PairsWithin room) rows-next (p .0 .ahead-within)
+
+  pub tried-small : PairSmall x
+  tried-small = pair-small room x (within-next .0) (omega arith)
+
+  pub tried-lookable : Lookable (x .to) (v .destinations) t w
+  tried-lookable = (p .0 .roomy, (omega arith, (within-next .0 .1, p .0 .destinations-within)))
+
+  queue-next : queueOf t w v ≡ pairOf w x ∷ restOf t w v
+  queue-next = ap (λ (rows : List PairRow). map (pairOf w) rows ++ pairsOf (v .passed) aliasesAt t w) rows-next
+
+  walk-next : walkOf t w v ≡ goesOn (v .misses) (pairOf w x ∷ restOf t w v) (storedIn t w v)
+  walk-next = ap (λ (q : List Pair). goesOn (v .misses) q (storedIn t w v)) queue-next
+
+  misses-fewer : v .misses < length (pairOf w x ∷ restOf t w v)
+  misses-fewer = subst (λ n. v .misses < n) (sym (length-queue t w v) ∙ ap length queue-next) (p .1 .1)
+
+  -- a row y that is put at place m, before those behind the next
+  module _ (m : ℕ) (y : PairRow) where
+    put-roomy : Roomy (putPair t m y) w
+    put-roomy = (omega (arith, length-put-pair t m y, p .0 .roomy .0), p .0 .roomy .1)
+
+    put-behind : m ≤ aliasesAt + 4 * v .next → behindRows (putPair t m y) v ≡ behindRows t v
+    put-behind h = pairs-pair-before (v .end - (v .next + 1)) (aliasesAt + 4 * (v .next + 1)) m t y (omega arith)
+
+    put-links : destinationsAt ≤ m → LinksKept t (putPair t m y)
+    put-links h = λ n k. links-pair-after n 0 m t y (omega arith)
+
+  -- It is passed: its row is put behind those that were passed
+  passed-behind : behindRows (putPair t (aliasesAt + 4 * v .passed) x) v ≡ behindRows t v
+  passed-behind = put-behind (aliasesAt + 4 * v .passed) x (omega arith)
+
+  passed-rows :
+      pairRows (v .passed + 1) aliasesAt (putPair t (aliasesAt + 4 * v .passed) x) ≡ pairRows (v .passed) aliasesAt t ++ x ∷ []
+  passed-rows = pairs-put (v .passed) aliasesAt t x (omega arith)
+
+  passed-destinations :
+      pairRows (v .destinations) destinationsAt (putPair t (aliasesAt + 4 * v .passed) x)
+      ≡ pairRows (v .destinations) destinationsAt t
+  passed-destinations = pairs-pair-after (v .destinations) destinationsAt (aliasesAt + 4 * v .passed) t x (omega arith)
+
+  passed-queue : queueOf (putPair t (aliasesAt + 4 * v .passed) x) w (passedOne v) ≡ restOf t w v ++ pairOf w x ∷ []
+  passed-queue =
+      ap₂ (λ (a b : List PairRow). map (pairOf w) a ++ map (pairOf w) b) passed-behind passed-rows
+      ∙ ap (λ (l : List Pair). map (pairOf w) (behindRows t v) ++ l) (map-snoc (pairOf w) (pairRows (v .passed) aliasesAt t) x)
+      ∙ sym (append-assoc (map (pairOf w) (behindRows t v)) (pairsOf (v .passed) aliasesAt t w) (pairOf w x ∷ []))
+
+  passed-walk :
+      lookup (part (x .to) w) (storedIn t w v) ≡ none
+      → walkOf (putPair t (aliasesAt + 4 * v .passed) x) w (passedOne v) ≡ walkOf t w v
+  passed-walk g =
+      ap₂ (goesOn (v .misses + 1)) passed-queue (ap (map (pairOf w)) passed-destinations)
+      ∙ sym (walk-next ∙ goes-miss (storedIn t w v) (v .misses) (pairOf w x) (restOf t w v) misses-fewer g)
+
+  passed-walking : Walking (putPair t (aliasesAt + 4 * v .passed) x) w (passedOne v)
+  passed-walking =
+      record {
+        roomy = put-roomy (aliasesAt + 4 * v .passed) x;
+        passed-before = omega arith;
+        next-before = omega arith;
+        few = omega arith;
+        end-few = p .0 .end-few;
+        misses-few = omega arith;
+        destinations-within = subst⁻¹ (PairsWithin room) passed-destinations (p .0 .destinations-within);
+        ahead-within = subst⁻¹ (PairsWithin room) passed-behind (within-next .1);
+        passed-within =
+            subst⁻¹ (PairsWithin room) passed-rows
+            (pairs-within-snoc room (pairRows (v .passed) aliasesAt t) x (p .0 .passed-within) (within-next .0));
+      }
+
+  pub passed :
+      (r : Lookup) → foundOf r w ≡ lookup (part (x .to) w) (storedIn t w v) → r ≡ NotThere
+      → (t′ : List ℕ) → t′ ≡ putPair t (aliasesAt + 4 * v .passed) x → Tried t t′ w v (passedOne v)
+  passed r g h t′ f =
+      subst⁻¹ (λ (l : List ℕ). Tried t l w v (passedOne v)) f (
+        passed-walk (sym g ∙ ap (λ (z : Lookup). foundOf z w) h),
+        (passed-walking, (omega arith, put-links (aliasesAt + 4 * v .passed) x (omega arith))),
+      )
+
+  -- Its target's destination is stored under its name, by a row y, and it is left out
+  module _ (y : PairRow) where
+    stored-behind : behindRows (putPair t (destinationsAt + 4 * v .destinations) y) v ≡ behindRows t v
+    stored-behind = put-behind (destinationsAt + 4 * v .destinations) y (omega arith)
+
+    stored-passed : pairRows (v .passed) aliasesAt (putPair t (destinationsAt + 4 * v .destinations) y) ≡ pairRows (v .passed) aliasesAt t
+    stored-passed = pairs-pair-before (v .passed) aliasesAt (destinationsAt + 4 * v .destinations) t y (omega arith)
+
+    stored-rows :
+        pairRows (v .destinations + 1) destinationsAt (putPair t (destinationsAt + 4 * v .destinations) y)
+        ≡ pairRows (v .destinations) destinationsAt t ++ y ∷ []
+    stored-rows = pairs-put (v .destinations) destinationsAt t y (omega arith)
+
+    stored-walking : PairWithin room y → Walking (putPair t (destinationsAt + 4 * v .destinations) y) w (storedOne v)
+    stored-walking b =
+        record {
+          roomy = put-roomy (destinationsAt + 4 * v .destinations) y;
+          passed-before = omega arith;
+          next-before = omega arith;
+          few = omega arith;
+          end-few = p .0 .end-few;
+          misses-few = omega arith;
+          destinations-within =
+              subst⁻¹ (PairsWithin room) stored-rows
+              (pairs-within-snoc room (pairRows (v .destinations) destinationsAt t) y (p .0 .destinations-within) b);
+          ahead-within = subst⁻¹ (PairsWithin room) stored-behind (within-next .1);
+          passed-within = subst⁻¹ (PairsWithin room) stored-passed (p .0 .passed-within);
+        }
+
+  module _ (to : Span) where
+    -- the row that is stored
+    abbrev storedRow : PairRow
+    storedRow = record { name = x .name; to = to }
+
+    stored-walk :
+        lookup (part (x .to) w) (storedIn t w v) ≡ has (part to w)
+        → walkOf (putPair t (destinationsAt + 4 * v .destinations) storedRow) w (storedOne v) ≡ walkOf t w v
+    stored-walk g =
+        ap₂ (goesOn 0)
+        (ap₂ (λ (a b : List PairRow). map (pairOf w) a ++ map (pairOf w) b) (stored-behind storedRow) (stored-passed storedRow))
+        (ap (map (pairOf w)) (stored-rows storedRow) ∙ map-snoc (pairOf w) (pairRows (v .destinations) destinationsAt t) storedRow)
+        ∙ sym (walk-next ∙ goes-hit (storedIn t w v) (v .misses) (pairOf w x) (restOf t w v) misses-fewer (part to w) g)
+
+    module _ (r : Lookup) (b : LookupWithin r) (h : r ≡ Has to) where
+      stored-within : PairWithin room storedRow
+      stored-within = (within-next .0 .0, subst LookupWithin h b)
+
+      pub stored-small : PairSmall storedRow
+      stored-small = pair-small room storedRow stored-within (omega arith)
+
+      pub stored :
+          foundOf r w ≡ lookup (part (x .to) w) (storedIn t w v)
+          → (t′ : List ℕ) → t′ ≡ putPair t (destinationsAt + 4 * v .destinations) storedRow → Tried t t′ w v (storedOne v)
+      stored g t′ f =
+          subst⁻¹ (λ (l : List ℕ). Tried t l w v (storedOne v)) f (
+            stored-walk (sym g ∙ ap (λ (z : Lookup). foundOf z w) h),
+            (
+              stored-walking storedRow stored-within,
+              (omega arith, put-links (destinationsAt + 4 * v .destinations) storedRow (omega arith)),
+            ),
+          )
+
+-- At the end, the first again
+abbrev pub wrappedOne : Walk → Walk
+wrappedOne v = record { passed = 0; next = 0; end = v .passed; misses = v .misses; destinations = v .destinations }
+
+pub wrap-end : (v : Walk) → v .next ≡ v .end → wrap v ≡ wrappedOne v
+wrap-end v e = rw (eq-eqb (v .next) (v .end) e, wrap)
+
+pub wrap-on : (v : Walk) → (v .next ≡ v .end → ⊥) → wrap v ≡ v
+wrap-on v e = rw (ne-eqb (v .next) (v .end) e, wrap)
+
+-- what wrapping keeps, where not all that are left were missed
+abbrev pub Wrapped : List ℕ → List ℕ → Walk → Walk → Type 0
+Wrapped t w v u = Tryable t w u × ((walkOf t w u ≡ walkOf t w v) × (stepsLeft u ≡ stepsLeft v))
+
+module _ (t w : List ℕ) (v : Walk) (ok : Walking t w v) (k : v .misses < leftOf v) where
+  queue-wrap : v .next ≡ v .end → queueOf t w (wrappedOne v) ≡ queueOf t w v
+  unfolding pairRows
+  queue-wrap e =
+      let f : v .passed - 0 ≡ v .passed = omega arith in
+      let g : v .end - v .next ≡ 0 = omega arith in
+      rw (f, g, append-nil)
+
+  wrapped-end : v .next ≡ v .end → Wrapped t w v (wrappedOne v)
+  unfolding PairsWithin pairRows
+  wrapped-end e =
+      let f : v .passed - 0 ≡ v .passed = omega arith in (
+        (
+          record {
+            roomy = ok .roomy;
+            passed-before = omega arith;
+            next-before = omega arith;
+            few = omega arith;
+            end-few = omega arith;
+            misses-few = omega arith;
+            destinations-within = ok .destinations-within;
+            ahead-within = rw f (ok .passed-within);
+            passed-within = tt;
+          },
+          (omega arith, omega arith),
+        ),
+        (ap (λ (q : List Pair). goesOn (v .misses) q (pairsOf (v .destinations) destinationsAt t w)) (queue-wrap e), omega arith),
+      )
+
+  wrapped-on : (v .next ≡ v .end → ⊥) → Wrapped t w v v
+  wrapped-on e = ((ok, (omega arith, k)), (refl, refl))
+
+  pub wrapped-by : (u : Walk) → u ≡ wrap v → Wrapped t w v u
+  wrapped-by u e =
+      subst⁻¹ (Wrapped t w v) e
+      (by-test (Wrapped t w v) (eqb (v .next) (v .end)) _ _ (λ f. wrapped-end (eqb-true _ _ f)) (λ f. wrapped-on (eqb-false _ _ f)))
+
+-- The whole walk: the work numbers were t and are t′
+abbrev pub Walked : ℕ → ℕ → List ℕ → List ℕ → List ℕ → Walk → Type 0
+Walked aliases destinations t t′ w v =
+    Walking t′ w v
+    × ((walkOf t′ w v ≡ resolveAliases (pairsOf aliases aliasesAt t w) (pairsOf destinations destinationsAt t w)) × LinksKept t t′)
+
+module _ (aliases destinations : ℕ) (t w : List ℕ) where
+  begun-queue : pairsOf (aliases - 0) aliasesAt t w ++ pairsOf 0 aliasesAt t w ≡ pairsOf aliases aliasesAt t w
+  unfolding pairRows
+  begun-queue = let f : aliases - 0 ≡ aliases = omega arith in rw (f, append-nil)
+
+  pub begun :
+      AliasesHeld aliases destinations t w
+      → Walked aliases destinations t t w (record { passed = 0; next = 0; end = aliases; misses = 0; destinations = destinations })
+  unfolding PairsWithin pairRows
+  begun h =
+      let f : aliases - 0 ≡ aliases = omega arith in (
+        record {
+          roomy = h .0;
+          passed-before = omega arith;
+          next-before = omega arith;
+          few = omega arith;
+          end-few = omega arith;
+          misses-few = omega arith;
+          destinations-within = h .1 .1 .0;
+          ahead-within = rw f (h .1 .1 .1);
+          passed-within = tt;
+        },
+        (
+          ap (λ (q : List Pair). goesOn 0 q (pairsOf destinations destinationsAt t w)) begun-queue
+              ∙ sym (goes-start (pairsOf destinations destinationsAt t w) (pairsOf aliases aliasesAt t w)),
+          λ n b. refl,
+        ),
+      )
+
+  module _ (t′ : List ℕ) (v : Walk) (ok : Walked aliases destinations t t′ w v) where
+    -- wrapped at the end, and one alias tried
+    pub walked-on :
+        v .misses < leftOf v → (u : Walk) → u ≡ wrap v → (t″ : List ℕ) (r : Walk) → Tried t′ t″ w u r
+        → Walked aliases destinations t t″ w r × (stepsLeft r < stepsLeft v)
+    walked-on k u e t″ r b =
+        let a = wrapped-by t′ w v (ok .0) k u e in (
+          (b .1 .0, (b .0 ∙ a .1 .0 ∙ ok .1 .0, λ n h. b .1 .1 .1 n h ∙ ok .1 .1 n h)),
+          subst (λ n. stepsLeft r < n) (a .1 .1) (b .1 .1 .0),
+        )
+
+    pub ended :
+        leftOf v ≤ v .misses
+        → (pairsOf (v .destinations) destinationsAt t′ w
+        ≡ resolveAliases (pairsOf aliases aliasesAt t w) (pairsOf destinations destinationsAt t w))
+        × AliasesResolved (v .destinations) t t′
+    ended h =
+        let stop = goes-stop (storedIn t′ w v) (v .misses) (queueOf t′ w v) (omega (arith, length-queue t′ w v)) in
+        (sym stop ∙ ok .1 .0, (omega arith, (ok .0 .destinations-within, ok .1 .1)))

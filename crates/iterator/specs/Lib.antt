@@ -1,0 +1,22 @@
+-- What the document reader promises: document 01, "`iterator.rs`", "Records" and "What comes out of a refusal".
+--
+-- The definition, and the public function whose contract is an equation with it, on every document, option, work areas and output:
+--   Document    documentOf    document    number, links and bytes, the output, and both work areas
+-- It is made of, in 01's order: Collect (collectAll: what all links of the document give, numbered, or 5 or 6), Resolve (hyperlinksOf:
+-- aliases, then references), Records (recordsOf). What the links of a document are, one after the other, is `parse`'s Links linksOf.
+-- Rows and Inner are what the contracts of private functions speak of: how lists stand in the work areas. Cases gathers worked cases,
+-- which proofs/CasesHold.antt computes.
+--
+-- Laws, proved in the file of proofs/ that is named, for the layers above:
+--   in order           OrderLaws collected-in-order: each link starts at or after the end of the one before
+--   sizes              RecordLaws records-size: the records take 8 bytes a link and its strings
+--   the work areas     that those of 4,096 numbers and 49,152 bytes suffice is no law but part of the proofs: no function tests for room
+--                      in them, and each asks for it (Inner Held: at most 18,432 bytes are taken, and the scanner is lent the rest)
+--   appending          CollectingLaws collect-append: collecting two lists of links is collecting the first and then the second
+pub mod Collect
+pub mod Resolve
+pub mod Records
+pub mod Document
+pub mod Rows
+pub mod Inner
+pub mod Cases
