@@ -10,7 +10,9 @@ pub mod ResolveLaws
 pub mod WalkLaws
 pub mod RecordLaws
 pub mod ReferenceLaws
+pub mod ReadBackLaws
 pub mod CollectingLaws
+pub mod AppendingLaws
 pub mod OrderLaws
 pub mod DocumentLaws
 pub mod CasesHold

@@ -10,13 +10,20 @@
 -- Laws, proved in the file of proofs/ that is named, for the layers above:
 --   in order           OrderLaws collected-in-order: each link starts at or after the end of the one before
 --   sizes              RecordLaws records-size: the records take 8 bytes a link and its strings
+--   reading back       ReadBackLaws links-back: the records of links in order, with fields of 15 bits, read as those links, whatever
+--                      follows them (ReadBack says what records read as)
 --   the work areas     that those of 4,096 numbers and 49,152 bytes suffice is no law but part of the proofs: no function tests for room
 --                      in them, and each asks for it (Inner Held: at most 18,432 bytes are taken, and the scanner is lent the rest)
---   appending          CollectingLaws collect-append: collecting two lists of links is collecting the first and then the second
+--   appending          CollectingLaws collect-append: collecting two lists of links is collecting the first and then the second;
+--                      AppendingLaws collect-lf, collected-lf: on s ++ 10 ∷ t, for `Tail t` and `Body s`, what is collected is what s gives,
+--                      with its numbers, and then what links behind the LF add; collect-grows: links, names and aliases grow at their ends
+--                      (Laws defines what these speak of)
 pub mod Collect
 pub mod Resolve
 pub mod Records
 pub mod Document
+pub mod ReadBack
+pub mod Laws
 pub mod Rows
 pub mod Inner
 pub mod Cases

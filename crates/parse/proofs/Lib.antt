@@ -6,4 +6,5 @@ pub mod FormsLaws
 pub mod BacktickLaws
 pub mod RoundLaws
 pub mod SingleLaws
+pub mod SizeLaws
 mod CasesHold

@@ -1,8 +1,6 @@
-// The pieces of the lower layers by number and the single-link call, and their answers in numbers: what recorded answers are
-// replayed on, and what is compared with the Rust's own. For the tests alone, no part of what is delivered. A function only hands
-// on what the piece or the call answers.
+// The pieces of the two lower layers by number, and their answers in numbers: what recorded answers are replayed on, and what is
+// compared with the Rust's own. For the tests alone, no part of what is delivered. A function only hands on what the piece answers.
 pub mod parser;
-pub mod single;
 
 use rst_bytes::Character;
 use rst_bytes::Outside;

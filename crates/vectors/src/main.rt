@@ -1,9 +1,12 @@
 // Replays the recorded answers of the Rust on the proved functions, and writes how many agree. data/README.md says what is
 // recorded and how it was made.
+mod areas;
+mod document;
 mod documents;
 mod number;
 mod parsers;
 mod replay;
+mod single;
 
 ghost use Rattle.io.specs.Counts.{Counts};
 
@@ -49,6 +52,17 @@ fn main() {
     let n = load(b"documents.bin", &mut data);
     let mut first = [0u8; 16384];
     let mut second = [0u8; 16384];
-    let walk = documents::replay(&data[..n], &mut first, &mut second);
-    say(b"single-link calls", walk.calls, walk.right);
+    let mut numbers = [0u32; 4200];
+    let mut bytes = [0u8; 49300];
+    let mut output = [0u8; 8192];
+    let walk = documents::replay(
+        &data[..n],
+        &mut first,
+        &mut second,
+        &mut numbers,
+        &mut bytes,
+        &mut output,
+    );
+    say(b"single-link calls", walk.singles, walk.singles_right);
+    say(b"document calls", walk.documents, walk.documents_right);
 }

@@ -1,6 +1,7 @@
-//! Documents for the single-link call: all short ones, cases, limits, drawn ones.
+//! Documents for the two calls: all short ones, cases, limits, drawn ones.
 
 use crate::inputs::limit_bytes;
+use driver::document::DOCUMENT_MAX;
 use driver::exhaustive::{BLOCKS, BYTES, INLINE, LINES, Sequences};
 use driver::random::Random;
 use driver::{forms, generate, limits};
@@ -35,7 +36,22 @@ const FOLLOWED: &[&str] = &[
 /// Characters at the domain's ends, in and out of it.
 const DOMAIN: &[&str] = &["a", "_", "`", " ", "é", "\u{80}", "\u{24F}", "\u{250}", "×"];
 
-/// Alphabets, and how many tokens at most.
+/// Aliases of three names, forwards, backwards and in a ring, with destinations
+/// before and behind them, and an empty name.
+const CHAINS: &[&str] = &[
+    ".. _a: b_\n",
+    ".. _b: c_\n",
+    ".. _c: a_\n",
+    ".. _b: a_\n",
+    ".. _a: u\n",
+    ".. _c: v\n",
+    "`c <w>`_\n",
+    "a_\n",
+    "`\\ `_\n",
+    ".. _\\ : a_\n",
+];
+
+/// Alphabets for the single-link call, and how many tokens at most.
 pub const ALPHABETS: [(&str, &[&str], u32); 9] = [
     ("all of up to five bytes of the grammar", &BYTES, 5),
     ("all of up to six bytes around backticks", BACKTICKS, 6),
@@ -51,6 +67,26 @@ pub const ALPHABETS: [(&str, &[&str], u32); 9] = [
         5,
     ),
 ];
+
+/// Alphabets for the document call, and how many tokens at most.
+pub const SHORT: [(&str, &[&str], u32); 6] = [
+    ("all of up to four bytes of the grammar", &BYTES, 4),
+    ("all of up to four tokens of inline forms", &INLINE, 4),
+    ("all of up to four tokens of blocks", &BLOCKS, 4),
+    ("all of up to four links and blocks", FOLLOWED, 4),
+    ("all of up to four lines", &LINES, 4),
+    ("all of up to five lines of aliases", CHAINS, 5),
+];
+
+/// Some of these.
+pub fn some_short(random: &mut Random) -> Vec<Vec<u8>> {
+    let mut list = Vec::new();
+    for (_, alphabet, most) in SHORT {
+        let sequences = Sequences::new(alphabet, most);
+        list.extend((0..40).map(|_| sequences.get(random.draw() % sequences.count())));
+    }
+    list
+}
 
 /// Bytes around the domain's limits, a part of all.
 pub fn domain_bytes() -> impl Iterator<Item = Vec<u8>> {
@@ -111,4 +147,127 @@ pub fn outside(random: &mut Random, mut doc: Vec<u8>) -> Vec<u8> {
         None => doc.push(byte),
     }
     doc
+}
+
+/// Names that lines refer to and define.
+const NAMES: [&str; 12] = [
+    "a", "b", "c", "d", "é", "x1", "_1", "_2", "_12", "a b", "\\ ", "_",
+];
+
+/// A line that refers to a name or defines one.
+fn line(random: &mut Random) -> String {
+    let name = *random.pick(&NAMES);
+    let other = *random.pick(&NAMES);
+    let n = random.below(20);
+    match random.below(14) {
+        0..3 => format!("`{name}`_"),
+        3 => "__".to_string(),
+        4 => format!("`{name}`__"),
+        5 => format!("`{name} <{n}>`_"),
+        6 => format!("`{name} <{n}>`__"),
+        7 => format!("`{name} <{other}_>`_"),
+        8 | 9 => format!(".. _`{name}`: {n}"),
+        10 | 11 => format!(".. _`{name}`: `{other}`_"),
+        12 => format!("__ {n}"),
+        _ => format!("__ `{other}`_"),
+    }
+}
+
+/// Lines that refer to names and define them, mostly few.
+pub fn lines(random: &mut Random) -> Vec<u8> {
+    const ENDS: [&str; 8] = ["\n", "\n", "\n", "\n", "\n", "\r\n", "\n\n", " "];
+    let most = match random.below(50) {
+        0 => 300,
+        1..5 => 60,
+        _ => 12,
+    };
+    let mut doc = String::new();
+    for _ in 0..random.below(most) {
+        doc += &line(random);
+        doc += *random.pick(&ENDS);
+    }
+    doc.into_bytes()
+}
+
+/// About as many links or definitions as there may be, of a few kinds, in any
+/// order.
+pub fn crowded(random: &mut Random) -> Vec<u8> {
+    let kinds: Vec<usize> = (0..1 + random.below(4)).map(|_| random.below(7)).collect();
+    let (most_links, most_definitions) = (254 + random.below(5), 254 + random.below(5));
+    let (mut links, mut definitions) = (0, 0);
+    let mut doc = String::new();
+    while links < most_links && definitions < most_definitions {
+        let (name, other) = (random.below(300), random.below(300));
+        let (is_link, is_definition, line) = match random.pick(&kinds) {
+            0 => (1, 0, format!("{name}_\n")),
+            1 => (1, 0, "__\n".to_string()),
+            2 => (1, 0, format!("`{name} <{other}>`__\n")),
+            3 => (1, 1, format!("`{name} <{other}>`_\n")),
+            4 => (0, 1, format!(".. _{name}: {other}\n")),
+            5 => (0, 1, format!(".. _{name}: {other}_\n")),
+            _ => (0, 1, format!("__ {other}_\n")),
+        };
+        links += is_link;
+        definitions += is_definition;
+        doc += &line;
+    }
+    doc.into_bytes()
+}
+
+/// Generated documents behind each other, about as long as a document may be.
+pub fn long(random: &mut Random) -> Vec<u8> {
+    let most = match random.below(4) {
+        0 => DOCUMENT_MAX,
+        1 => DOCUMENT_MAX + 1,
+        _ => random.below(DOCUMENT_MAX),
+    };
+    let mut text = String::new();
+    while text.len() < most {
+        let more = match random.below(3) {
+            0 => format!(
+                "{}{}",
+                random.pick(&NAMES),
+                "word ".repeat(random.below(900))
+            ),
+            _ => String::from_utf8(generate::document(random.draw(), true)).expect("the domain"),
+        };
+        text += &more;
+    }
+    text.truncate(text.floor_char_boundary(most));
+    text.into_bytes()
+}
+
+/// A damaged copy of a generated document.
+fn damaged(random: &mut Random) -> Vec<u8> {
+    let doc = generate::document(random.draw(), true);
+    generate::damaged(random, &doc)
+}
+
+/// A generated document with a byte outside the domain.
+fn grown_outside(random: &mut Random) -> Vec<u8> {
+    let doc = grown(random);
+    outside(random, doc)
+}
+
+/// A kind of drawn documents: one is drawn in so many rounds.
+pub struct Kind {
+    pub name: &'static str,
+    pub rounds: u64,
+    pub draw: fn(&mut Random) -> Vec<u8>,
+}
+
+/// The kinds of drawn documents for the document call.
+pub const KINDS: [Kind; 8] = [
+    kind("generated documents", 1, grown),
+    kind("damaged copies of generated documents", 1, damaged),
+    kind("drawn lines", 1, lines),
+    kind("drawn from the forms of the parsers", 2, formed),
+    kind("drawn tokens", 2, tokens),
+    kind("documents with a byte outside the domain", 8, grown_outside),
+    kind("about as many links and definitions as may be", 50, crowded),
+    kind("about as long as may be", 200, long),
+];
+
+const fn kind(name: &'static str, rounds: u64, draw: fn(&mut Random) -> Vec<u8>) -> Kind {
+    Kind { name, rounds, draw }
 }

@@ -1,12 +1,20 @@
-//! Compares the proved pieces and parsers and the single-link call with the
-//! Rust's own, on inputs of several kinds.
+//! Compares the proved pieces and parsers, the single-link call and the document
+//! call with the Rust's own, on inputs of several kinds.
 //!
-//!     compare [--seconds N] [--seed N]
+//!     compare [--seconds N] [--minutes N] [--documents N] [--seed N] [--only PART]
+//!     compare --sample [--seed N]
 //!
-//! All short inputs are always tried; drawn ones for N seconds (10), from a
-//! seed (1), half of the time for the single-link call. A piece, a parser or
-//! the call on one kind of inputs is one test; the last line counts them.
+//! All short inputs are always tried; drawn ones for N seconds (10) or minutes,
+//! from a seed (1): half of the time for the document call, the other half for
+//! the single-link call and for the pieces and parsers. With `--documents`, the
+//! document call goes on until so many documents are drawn. `--only` names one of
+//! `parsers`, `single`, `document`, which then has all the time. A piece, a parser
+//! or a call on one kind of inputs is one test; the last line counts them.
+//!
+//! `--sample` makes some thousands of calls of both kinds, whose areas end where
+//! their allocations do, for a tool that watches memory.
 
+mod document;
 mod documents;
 mod inputs;
 mod met;
@@ -16,12 +24,16 @@ mod single;
 mod test;
 
 use driver::random::Random;
-use met::Met;
+use met::{DocumentsMet, Met};
+use std::env;
 use std::time::{Duration, Instant};
 use test::Count;
 
-/// Drawn inputs, all pieces and parsers on each, until the time is over.
-fn drawn(count: &mut Count, seed: u64, time: Duration) {
+/// Short inputs, and drawn ones until the time is over, all pieces and parsers on
+/// each.
+fn pieces_and_parsers(count: &mut Count, seed: u64, time: Duration) {
+    pieces::all(count);
+    parsers::all(count);
     let began = Instant::now();
     let mut random = Random::new(seed);
     let mut pieces = pieces::Drawn::new();
@@ -36,38 +48,75 @@ fn drawn(count: &mut Count, seed: u64, time: Duration) {
     parsers.end(count);
 }
 
-/// Drawn documents, the single-link call at every place of each, until the time
-/// is over.
-fn drawn_documents(count: &mut Count, met: &mut Met, seed: u64, time: Duration) {
+/// Short documents, and drawn ones until the time is over, the single-link call
+/// at every place of each.
+fn single_links(count: &mut Count, seed: u64, time: Duration) {
+    let mut met = Met::default();
+    single::all(count, &mut met);
     let began = Instant::now();
     let mut random = Random::new(seed);
     let mut single = single::Drawn::new();
     while began.elapsed() < time {
         single.draw(&mut random);
     }
-    single.end(count, met);
+    single.end(count, &mut met);
+    met.end(count);
 }
 
-fn option(name: &str, otherwise: u64) -> u64 {
-    let words: Vec<String> = std::env::args().collect();
-    match words.iter().position(|word| word == name) {
-        Some(at) => words[at + 1].parse().expect("a number"),
-        None => otherwise,
-    }
+/// Short documents, and drawn ones until the time is over and there were enough.
+fn whole_documents(count: &mut Count, seed: u64, time: Duration, least: u64) {
+    let mut met = DocumentsMet::default();
+    document::all(count, &mut met);
+    let began = Instant::now();
+    let goes_on = |documents| began.elapsed() < time || documents < least;
+    document::drawn(count, &mut met, seed, goes_on);
+    met.end(count);
+}
+
+/// Some calls of both kinds.
+fn sample(count: &mut Count, seed: u64) {
+    let mut met = Met::default();
+    single::sample(count, &mut met, seed);
+    met.end(count);
+    let mut met = DocumentsMet::default();
+    document::sample(count, &mut met, seed);
+    met.end(count);
+}
+
+/// The word behind an option.
+fn word(name: &str) -> Option<String> {
+    env::args().skip_while(|word| word != name).nth(1)
+}
+
+/// The number behind an option.
+fn number(name: &str) -> Option<u64> {
+    word(name).map(|word| word.parse().expect("a number"))
 }
 
 fn main() {
-    let seconds = option("--seconds", 10);
-    let seed = option("--seed", 1);
+    let minutes = number("--minutes").map(|n| 60 * n);
+    let seconds = number("--seconds").or(minutes).unwrap_or(10);
+    let seed = number("--seed").unwrap_or(1);
+    let least = number("--documents").unwrap_or(0);
+    let only = word("--only");
     let mut count = Count::default();
-    pieces::all(&mut count);
-    parsers::all(&mut count);
-    let half = Duration::from_secs(seconds) / 2;
-    drawn(&mut count, seed, half);
-    let mut met = Met::default();
-    single::all(&mut count, &mut met);
-    drawn_documents(&mut count, &mut met, seed, half);
-    met.end(&mut count);
+    let time = |part: &str, share: u32| match only.as_deref() {
+        None => Some(Duration::from_secs(seconds) / share),
+        Some(name) => (name == part).then_some(Duration::from_secs(seconds)),
+    };
+    if env::args().any(|word| word == "--sample") {
+        sample(&mut count, seed);
+    } else {
+        if let Some(time) = time("parsers", 4) {
+            pieces_and_parsers(&mut count, seed, time);
+        }
+        if let Some(time) = time("single", 4) {
+            single_links(&mut count, seed, time);
+        }
+        if let Some(time) = time("document", 2) {
+            whole_documents(&mut count, seed, time, least);
+        }
+    }
     println!("{} passed, {} failed", count.passed, count.failed);
-    std::process::exit(i32::from(count.failed > 0));
+    std::process::exit(i32::from(count.failed > 0 || count.passed == 0));
 }

@@ -1,5 +1,6 @@
-//! The proved pieces and parsers and the single-link call, through the archive.
+//! The proved pieces and parsers and the two public calls, through the archives.
 
+use driver::document::Outcome;
 use driver::parsers::{Parsed, has_scratch};
 use driver::pieces::Answer;
 use driver::single::Single;
@@ -23,8 +24,16 @@ struct Places {
     consumed: usize,
 }
 
+/// As include/rstlinks.h has them.
 #[repr(C)]
-struct Taken {
+struct RstOutcome {
+    number: u32,
+    links: u32,
+    bytes: u32,
+}
+
+#[repr(C)]
+struct RstLink {
     number: u32,
     bytes: u32,
     kind: u32,
@@ -43,7 +52,7 @@ unsafe extern "C" {
         scratch: *mut u8,
         scratch_len: usize,
     ) -> Places;
-    fn rst_single(
+    fn rst_take_link(
         document: *const u8,
         document_len: usize,
         place: usize,
@@ -51,7 +60,18 @@ unsafe extern "C" {
         first_len: usize,
         second: *mut u8,
         second_len: usize,
-    ) -> Taken;
+    ) -> RstLink;
+    fn rst_document(
+        document: *const u8,
+        document_len: usize,
+        render: u32,
+        numbers: *mut u32,
+        numbers_len: usize,
+        bytes: *mut u8,
+        bytes_len: usize,
+        output: *mut u8,
+        output_len: usize,
+    ) -> RstOutcome;
 }
 
 /// The answer of the piece with that number.
@@ -93,8 +113,8 @@ pub fn parser<'a>(number: u8, s: &'a [u8], scratch: &'a mut [u8]) -> Parsed<'a> 
 pub fn single(document: &[u8], place: usize, first: &mut [u8], second: &mut [u8]) -> Single {
     // The call reads the one slice, reads and writes the others, and asks
     // nothing of its arguments.
-    let taken = unsafe {
-        rst_single(
+    let link = unsafe {
+        rst_take_link(
             document.as_ptr(),
             document.len(),
             place,
@@ -105,13 +125,55 @@ pub fn single(document: &[u8], place: usize, first: &mut [u8], second: &mut [u8]
         )
     };
     Single {
-        number: taken.number,
-        bytes: taken.bytes,
-        kind: taken.kind,
-        skipped: taken.skipped,
-        consumed: taken.consumed,
-        first: taken.first,
-        second: taken.second,
+        number: link.number,
+        bytes: link.bytes,
+        kind: link.kind,
+        skipped: link.skipped,
+        consumed: link.consumed,
+        first: link.first,
+        second: link.second,
+    }
+}
+
+/// Where a slice stands; nowhere, where it is empty.
+fn pointer<T>(slice: &mut [T]) -> *mut T {
+    match slice {
+        [] => std::ptr::null_mut(),
+        _ => slice.as_mut_ptr(),
+    }
+}
+
+/// The answer of the document call. An empty area is lent as a null pointer.
+pub fn document(
+    document: &[u8],
+    render: u32,
+    numbers: &mut [u32],
+    bytes: &mut [u8],
+    output: &mut [u8],
+) -> Outcome {
+    let start = match document {
+        [] => std::ptr::null(),
+        _ => document.as_ptr(),
+    };
+    // The call reads the first slice, reads and writes the others, and asks
+    // nothing of its arguments.
+    let outcome = unsafe {
+        rst_document(
+            start,
+            document.len(),
+            render,
+            pointer(numbers),
+            numbers.len(),
+            pointer(bytes),
+            bytes.len(),
+            pointer(output),
+            output.len(),
+        )
+    };
+    Outcome {
+        number: outcome.number,
+        links: outcome.links,
+        bytes: outcome.bytes,
     }
 }
 

@@ -9,7 +9,8 @@ use driver::random::Random;
 use driver::single::{Single, take_link_at};
 use std::fmt;
 
-/// The bytes behind each lent buffer that are looked at too.
+/// The bytes behind each lent buffer that are looked at too. A sample has none:
+/// there a buffer is all of its allocation.
 const GUARD: usize = 8;
 
 /// The places asked of every document besides its own.
@@ -35,58 +36,40 @@ impl fmt::Display for Asked {
 
 /// What a call gives: its answer, and both buffers with the bytes behind them.
 #[derive(Debug, PartialEq)]
-struct Left<'a> {
+struct Left {
     answer: Single,
-    first: &'a [u8],
-    second: &'a [u8],
+    first: Vec<u8>,
+    second: Vec<u8>,
 }
 
-impl Answered for Left<'_> {
+impl Answered for Left {
     fn is_accepted(&self) -> bool {
         self.answer.number == 0
     }
 }
 
-/// Areas for the two strings, of which the front is lent.
-struct Areas {
-    first: Vec<u8>,
-    second: Vec<u8>,
-}
-
-impl Areas {
-    fn new() -> Areas {
-        let area = || vec![0; DOCUMENT_MAX + 2 * GUARD];
-        Areas {
-            first: area(),
-            second: area(),
-        }
-    }
-
-    /// A call, with areas that hold that byte before it.
-    fn call(
-        &mut self,
-        byte: u8,
-        asked: Asked,
-        call: impl FnOnce(&mut [u8], &mut [u8]) -> Single,
-    ) -> Left<'_> {
-        let first = &mut self.first[..asked.first + GUARD];
-        let second = &mut self.second[..asked.second + GUARD];
-        first.fill(byte);
-        second.fill(byte);
-        Left {
-            answer: call(&mut first[..asked.first], &mut second[..asked.second]),
-            first,
-            second,
-        }
+/// A call, with buffers that hold that byte before it, as so many bytes behind
+/// them do.
+fn lent(
+    byte: u8,
+    asked: Asked,
+    guard: usize,
+    call: impl FnOnce(&mut [u8], &mut [u8]) -> Single,
+) -> Left {
+    let mut first = vec![byte; asked.first + guard];
+    let mut second = vec![byte; asked.second + guard];
+    Left {
+        answer: call(&mut first[..asked.first], &mut second[..asked.second]),
+        first,
+        second,
     }
 }
 
 /// A test of the single-link call on documents of one kind.
 struct Calls {
     test: Test,
-    proved: Areas,
-    rust: Areas,
-    /// What the areas held before the last call.
+    guard: usize,
+    /// What the buffers held before the last call.
     byte: u8,
     met: Met,
 }
@@ -95,8 +78,7 @@ impl Calls {
     fn new(kind: &str) -> Calls {
         Calls {
             test: Test::new(&format!("the single-link call, {kind}")),
-            proved: Areas::new(),
-            rust: Areas::new(),
+            guard: GUARD,
             byte: 0,
             met: Met::default(),
         }
@@ -105,12 +87,11 @@ impl Calls {
     /// One call of both, and the Rust's answer.
     fn call(&mut self, doc: &[u8], asked: Asked) -> Single {
         self.byte = self.byte.wrapping_add(1);
-        let byte = self.byte;
         let place = asked.place;
-        let proved = self.proved.call(byte, asked, |first, second| {
+        let proved = lent(self.byte, asked, self.guard, |first, second| {
             proved::single(doc, place, first, second)
         });
-        let rust = self.rust.call(byte, asked, |first, second| {
+        let rust = lent(self.byte, asked, self.guard, |first, second| {
             take_link_at(doc, place, first, second)
         });
         let answer = rust.answer;
@@ -215,6 +196,23 @@ pub fn all(count: &mut Count, met: &mut Met) {
     let mut calls = Calls::new("near the limits");
     for doc in documents::limits() {
         calls.sampled(&doc, 1 + doc.len() / 100);
+    }
+    calls.end(count, met);
+}
+
+/// Some documents at some places, with buffers that end where their allocations
+/// do.
+pub fn sample(count: &mut Count, met: &mut Met, seed: u64) {
+    let mut random = Random::new(seed);
+    let mut calls = Calls::new("a sample");
+    calls.guard = 0;
+    let mut docs = documents::some_short(&mut random);
+    docs.extend(documents::cases());
+    docs.extend(documents::limits().into_iter().step_by(9));
+    docs.extend((0..20).map(|_| documents::formed(&mut random)));
+    for doc in docs {
+        let step = 1 + doc.len() / 10;
+        calls.sampled(&doc.into_boxed_slice(), step);
     }
     calls.end(count, met);
 }

@@ -9,6 +9,7 @@ pub mod document;
 pub mod exhaustive;
 pub mod forms;
 pub mod generate;
+pub mod items;
 pub mod limits;
 pub mod names;
 pub mod parsers;

@@ -4,8 +4,7 @@
 //! document leaves it *unresolved* if it is collected and then dropped."
 
 use crate::document::links_of;
-use parse_hyperlinks::parser::Link;
-use parse_hyperlinks::parser::parse::take_link;
+use crate::items::items_of;
 
 #[derive(Clone, Debug, Default, PartialEq)]
 pub struct Names {
@@ -21,30 +20,12 @@ pub struct Names {
 /// same, since destination blocks stand at places of their own.
 pub fn names_of(text: &str) -> Names {
     let mut names = Names::default();
-    let mut anonymous = 0;
-    let mut number = |name: String| {
-        if name == "_" {
-            anonymous += 1;
-            format!("_{anonymous}")
-        } else {
-            name
-        }
-    };
-    let mut rest = text;
-    while let Ok((after, (skipped, link))) = take_link(rest) {
-        match link {
-            Link::TextLabel2Dest(name, ..) => names.defined.push(name.into_owned().into_bytes()),
-            Link::Label2Dest(name, ..) | Link::Label2Label(name, _) => {
-                names.defined.push(number(name.into_owned()).into_bytes());
-            }
-            Link::Text2Label(..) => {
-                names
-                    .references
-                    .push(text.len() - rest.len() + skipped.len());
-            }
+    for item in items_of(text) {
+        match item.kind {
+            2 | 4 | 5 => names.defined.push(item.first),
+            3 => names.references.push(item.place),
             _ => {}
         }
-        rest = after;
     }
     let shown: Vec<usize> = links_of(text, false)
         .iter()

@@ -27,6 +27,25 @@ const PLACED_LONGEST: usize = 40;
 /// The longest document of a case recorded at every place.
 const PLACED_CASE_LONGEST: usize = 20;
 
+/// Generated documents recorded with many areas, and the longest of them.
+const LENT: usize = 24;
+const LENT_LONGEST: usize = 60;
+
+/// Lengths of the work areas recorded with these: too short, and longer.
+const WORK: [(usize, usize); 8] = [
+    (NUMBERS_MIN - 1, BYTES_MIN),
+    (NUMBERS_MIN, BYTES_MIN - 1),
+    (0, 0),
+    (0, BYTES_MIN),
+    (NUMBERS_MIN, 0),
+    (100, 200),
+    (NUMBERS_MIN + 1, BYTES_MIN + 1),
+    (NUMBERS_MIN + 100, BYTES_MIN + 100),
+];
+
+/// Wrong options recorded.
+const NO_RENDER: [u32; 4] = [2, 3, 256, u32::MAX];
+
 /// A document and the calls recorded on it.
 struct Entry {
     doc: Vec<u8>,
@@ -41,6 +60,7 @@ pub fn documents_file() -> File {
     generated_entries(&mut entries);
     place_entries(&mut entries);
     sequence_entries(&mut entries);
+    lent_entries(&mut entries);
     let chunks = entries.iter().flat_map(entry_chunks).collect();
     File::counted(entries.len(), chunks, recorded::document_chunks)
 }
@@ -276,6 +296,61 @@ fn sequence_entries(entries: &mut Vec<Entry>) {
             entries.push(Entry { doc, calls });
         }
     }
+}
+
+/// Short documents, of cases and generated, every fourth of these in or out of
+/// the domain, with areas of many lengths.
+fn lent_entries(entries: &mut Vec<Entry>) {
+    let cases = [scope::WORKED, "", "a_ x", "\u{250}", "`\\ `_\n.. _\\ : u"];
+    let mut docs: Vec<Vec<u8>> = cases.map(|doc| doc.as_bytes().to_vec()).into();
+    docs.push("a_\n".repeat(257).into_bytes());
+    docs.push("__ u\n".repeat(257).into_bytes());
+    let generated = (1u64..).map(|seed| generate::document(seed, !seed.is_multiple_of(4)));
+    let is_short = |doc: &Vec<u8>| doc.len() <= LENT_LONGEST;
+    // With a link, or refused.
+    let is_told = |doc: &Vec<u8>| document(doc, 1, NUMBERS_MIN, BYTES_MIN, &mut []).number > 0;
+    docs.extend(generated.filter(is_short).filter(is_told).take(LENT));
+    for doc in docs {
+        let calls = lent_calls(&doc);
+        entries.push(Entry { doc, calls });
+    }
+}
+
+/// The document call with outputs of several lengths around the size needed and
+/// both options; with work areas of several lengths; with wrong options.
+fn lent_calls(doc: &[u8]) -> Vec<Call> {
+    let mut calls = Vec::new();
+    for render in 0..2 {
+        for more in [0, 1, 100] {
+            calls.push(sized(doc, render, |size| size + more));
+        }
+        for less in [1, 9] {
+            calls.push(sized(doc, render, |size| size.saturating_sub(less)));
+        }
+        calls.push(sized(doc, render, |_| 0));
+    }
+    let Call::Document { output, .. } = exact(doc, 0) else {
+        unreachable!("it is a document call");
+    };
+    calls.extend(WORK.map(|(numbers, bytes)| Call::Document {
+        render: 0,
+        numbers,
+        bytes,
+        output,
+    }));
+    calls.extend(NO_RENDER.map(|render| Call::Document {
+        render,
+        numbers: NUMBERS_MIN,
+        bytes: BYTES_MIN,
+        output,
+    }));
+    let mut different: Vec<Call> = Vec::new();
+    for call in calls {
+        if !different.contains(&call) {
+            different.push(call);
+        }
+    }
+    different
 }
 
 /// An entry's chunks: the document stands before its first answer.

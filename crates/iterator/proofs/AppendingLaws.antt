@@ -1,0 +1,315 @@
+-- The laws of `specs/Collect.antt` on appended text: LF and a tail behind a document leave what it collects as it was, and add to it at the
+-- ends. What is collected of a link depends on the document only by the bytes that the link consumed.
+-- Assumes nothing.
+use Prim.Native.Nat.{ℕ, _+_, _<_, _≤_}
+use native.Mathlib.Omega.{arith}
+use mathlib.Core.Path.{_≡_, refl, ap, sym, subst, _∙_}
+use mathlib.Core.List.{List, [], _∷_, _++_, append-nil, append-assoc}
+use mathlib.Core.Bool.{Bool, true, false}
+use lib.Dec.{eqb, ltb}
+use lib.ListN.{length, take, drop, length-drop}
+use lib.Seq.{take-append-le, drop-append-le}
+use Rattle.rst_bytes.specs.Appending.{Body, Tail}
+use Rattle.parse.specs.Link.{Kind, text2dest, text-label2dest, text2label, label2dest, label2label}
+use Rattle.parse.specs.Links.{Placed, linksOf}
+use Rattle.parse.specs.Laws.{Apart, AllBehind}
+use Rattle.parse.proofs.LinksLaws.{links-of-apart}
+use Rattle.parse.proofs.AppendingLaws.{links-lf}
+use Rattle.iterator.specs.Collect.{
+  Pair,
+  pair,
+  destination,
+  label,
+  Item,
+  item,
+  Collection,
+  Collected,
+  collected,
+  refused,
+  andThen,
+  linksMax,
+  definitionsMax,
+  definitions,
+  withLink,
+  withDestination,
+  withAlias,
+  referenceLabel,
+  withReference,
+  targetName,
+  withTarget,
+  addLink,
+  addDestination,
+  addAlias,
+  addBlock,
+  addOf,
+  add,
+  consumedBytes,
+  collectFrom,
+  collectAll,
+  new,
+}
+use Rattle.iterator.specs.Laws.{ItemsBehind, Begins, Grown, GrownBehind, CollectsOn}
+use Rattle.iterator.proofs.CollectingLaws.{collect-append}
+
+-- Links that end within s
+
+-- the bytes that a link consumed are the same with more behind s
+consumed-append :
+    (s u : List ℕ) (p : Placed) → p .place + p .consumed ≤ length s → consumedBytes (s ++ u) p ≡ consumedBytes s p
+consumed-append s u p h =
+    let f : p .place ≤ length s = omega arith in
+    let g : p .consumed ≤ length (drop (p .place) s) = omega (arith, length-drop (p .place) s) in
+    ap (take (p .consumed)) (drop-append-le (p .place) s u f) ∙ take-append-le (p .consumed) (drop (p .place) s) u g
+
+-- so is what is collected of it
+add-append :
+    (k : Kind) (render : ℕ) (s u : List ℕ) (p : Placed) (c : Collection) → p .place + p .consumed ≤ length s
+    → addOf k render (s ++ u) p c ≡ addOf k render s p c
+add-append text2dest render s u p c h = refl
+add-append text-label2dest render s u p c h = refl
+add-append text2label render s u p c h = refl
+add-append label2dest render s u p c h =
+    let y = pair (targetName c (p .first)) (p .second) in
+    let d = withTarget (p .first) c in
+    ap
+    (λ (x : List ℕ). elim (eqb render 1) [
+      | true ↦ andThen (addLink (item p x (destination (p .second))) d) (addDestination y)
+      | false ↦ addDestination y d
+    ])
+    (consumed-append s u p h)
+add-append label2label render s u p c h = refl
+
+-- links that are apart and end by place m
+apart-ends : (n m : ℕ) (ps : List Placed) → Apart n m ps → n ≤ m
+apart-ends n m [] a = a
+apart-ends n m (p ∷ ps) a =
+    let h = apart-ends (p .place + p .consumed) m ps (a .1) in
+    let g = a .0 in
+    omega arith
+
+-- what is collected of the first link, and then of the others
+collect-cons :
+    (render : ℕ) (s : List ℕ) (c : Collection) (p : Placed) (ps : List Placed)
+    → collectFrom render s c (p ∷ ps) ≡ andThen (add render s p c) (λ d. collectFrom render s d ps)
+unfolding collectFrom
+collect-cons render s c p ps = go (add render s p c)
+  where
+    go :
+        (z : Collected)
+        → elim z [ collected d ↦ collectFrom render s d ps | refused number ↦ refused number ]
+        ≡ andThen z (λ d. collectFrom render s d ps)
+    go (collected d) = refl
+    go (refused number) = refl
+
+-- so is what is collected of all links
+collect-within :
+    (render : ℕ) (s u : List ℕ) (ps : List Placed) (n : ℕ) (c : Collection) → Apart n (length s) ps
+    → collectFrom render (s ++ u) c ps ≡ collectFrom render s c ps
+unfolding collectFrom
+collect-within render s u [] n c a = refl
+collect-within render s u (p ∷ ps) n c a =
+    collect-cons render (s ++ u) c p ps
+    ∙ go
+    (add render (s ++ u) p c)
+    (add render s p c)
+    (add-append (p .kind) render s u p c (apart-ends (p .place + p .consumed) (length s) ps (a .1)))
+    (λ d. collect-within render s u ps (p .place + p .consumed) d (a .1))
+    ∙ sym (collect-cons render s c p ps)
+  where
+    go :
+        (z z′ : Collected) → z ≡ z′ → ((d : Collection) → collectFrom render (s ++ u) d ps ≡ collectFrom render s d ps)
+        → andThen z (λ d. collectFrom render (s ++ u) d ps) ≡ andThen z′ (λ d. collectFrom render s d ps)
+    go z (collected d) e ih = rw e (ih d)
+    go z (refused number) e ih = rw e refl
+
+-- what LF and a tail add
+pub collect-lf : (render : ℕ) (s t : List ℕ) → Tail t → Body s → CollectsOn render s (s ++ 10 ∷ t)
+collect-lf render s t h b =
+    let w = links-lf s t h b in
+    let d = s ++ 10 ∷ t in
+    record {
+      more = w .0;
+      links = w .1;
+      behind = w .2;
+      collects =
+          ap (collectFrom render d new) (w .1)
+          ∙ collect-append render d new (linksOf s) (w .0)
+          ∙ ap
+          (λ (z : Collected). andThen z (λ c. collectFrom render d c (w .0)))
+          (collect-within render s (10 ∷ t) (linksOf s) 0 new (links-of-apart s));
+    }
+
+-- What is collected grows at its ends
+
+abbrev begins-same : {A : Type 0} (xs : List A) → Begins xs xs
+begins-same xs = record { rest = []; is = sym (append-nil xs) }
+
+abbrev begins-more : {A : Type 0} (xs ys : List A) → Begins xs (xs ++ ys)
+begins-more xs ys = record { rest = ys; is = refl }
+
+abbrev begins-trans : {A : Type 0} {xs ys zs : List A} → Begins xs ys → Begins ys zs → Begins xs zs
+begins-trans {xs = xs} v w =
+    record { rest = v .rest ++ w .rest; is = w .is ∙ rw (v .is) (append-assoc xs (v .rest) (w .rest)) }
+
+-- all places at which links start are such
+abbrev Places : (ℕ → Type 0) → List Placed → Type 0
+Places P [] = Unit {0}
+Places P (p ∷ ps) = P (p .place) × Places P ps
+
+abbrev ItemPlaces : (ℕ → Type 0) → List Item → Type 0
+ItemPlaces P [] = Unit {0}
+ItemPlaces P (x ∷ xs) = P (x .place) × ItemPlaces P xs
+
+-- c grew to z, unless that is a refusal, and the links that z has besides start at such places
+abbrev GrownTo : (ℕ → Type 0) → Collection → Collected → Type 0
+GrownTo P c (collected d) = (g : Grown c d) × ItemPlaces P (g .0 .rest)
+GrownTo P c (refused number) = Unit {0}
+
+module _ (P : ℕ → Type 0) where
+  places-append : (xs ys : List Item) → ItemPlaces P xs → ItemPlaces P ys → ItemPlaces P (xs ++ ys)
+  places-append [] ys v w = w
+  places-append (x ∷ xs) ys v w = (v .0, places-append xs ys (v .1) w)
+
+  link-grows : (x : Item) (c : Collection) → P (x .place) → GrownTo P c (addLink x c)
+  link-grows x c h = go (ltb (length (c .links)) linksMax)
+    where
+      go : (t : Bool) → GrownTo P c (elim t [ true ↦ collected (withLink x c) | false ↦ refused 5 ])
+      go true = ((begins-more (c .links) (x ∷ []), (begins-same (c .label2dest), begins-same (c .label2label))), (h, tt))
+      go false = tt
+
+  destination-grows : (x : Pair) (c : Collection) → GrownTo P c (addDestination x c)
+  destination-grows x c = go (ltb (definitions c) definitionsMax)
+    where
+      go : (t : Bool) → GrownTo P c (elim t [ true ↦ collected (withDestination x c) | false ↦ refused 6 ])
+      go true = ((begins-same (c .links), (begins-more (c .label2dest) (x ∷ []), begins-same (c .label2label))), tt)
+      go false = tt
+
+  alias-grows : (x : Pair) (c : Collection) → GrownTo P c (addAlias x c)
+  alias-grows x c = go (ltb (definitions c) definitionsMax)
+    where
+      go : (t : Bool) → GrownTo P c (elim t [ true ↦ collected (withAlias x c) | false ↦ refused 6 ])
+      go true = ((begins-same (c .links), (begins-same (c .label2dest), begins-more (c .label2label) (x ∷ []))), tt)
+      go false = tt
+
+  -- what is only counted is no link, name or alias
+  reference-grows : (x : List ℕ) (c : Collection) (z : Collected) → GrownTo P (withReference x c) z → GrownTo P c z
+  reference-grows x c (collected d) v = v
+  reference-grows x c (refused number) v = v
+
+  target-grows : (x : List ℕ) (c : Collection) (z : Collected) → GrownTo P (withTarget x c) z → GrownTo P c z
+  target-grows x c (collected d) v = v
+  target-grows x c (refused number) v = v
+
+  -- one after the other
+  then-grows :
+      (c : Collection) (z : Collected) (f : Collection → Collected) → GrownTo P c z → ((d : Collection) → GrownTo P d (f d))
+      → GrownTo P c (andThen z f)
+  then-grows c (refused number) f v w = tt
+  then-grows c (collected d) f v w = go (f d) (w d)
+    where
+      go : (z : Collected) → GrownTo P d z → GrownTo P c z
+      go (refused number) w = tt
+      go (collected e) w = (
+        (
+          begins-trans (v .0 .0) (w .0 .0),
+          (begins-trans (v .0 .1 .0) (w .0 .1 .0), begins-trans (v .0 .1 .1) (w .0 .1 .1)),
+        ),
+        places-append (v .0 .0 .rest) (w .0 .0 .rest) (v .1) (w .1),
+      )
+
+  both-grow :
+      (x : Item) (y : Pair) (c : Collection) → P (x .place) → GrownTo P c (andThen (addLink x c) (addDestination y))
+  both-grow x y c h = then-grows c (addLink x c) (addDestination y) (link-grows x c h) (destination-grows y)
+
+  block-grows :
+      (render : ℕ) (s : List ℕ) (p : Placed) (x : Pair) (c : Collection) → P (p .place) → GrownTo P c (addBlock render s p x c)
+  block-grows render s p x c h = go (eqb render 1) (item p (consumedBytes s p) (destination (p .second))) h
+    where
+      go :
+          (t : Bool) (y : Item) → P (y .place)
+          → GrownTo P c (elim t [ true ↦ andThen (addLink y c) (addDestination x) | false ↦ addDestination x c ])
+      go true y g = both-grow y x c g
+      go false y g = destination-grows x c
+
+  -- one link of the document more
+  add-grows : (k : Kind) (render : ℕ) (s : List ℕ) (p : Placed) (c : Collection) → P (p .place) → GrownTo P c (addOf k render s p c)
+  add-grows text2dest render s p c h = link-grows (item p (p .first) (destination (p .second))) c h
+  add-grows text-label2dest render s p c h =
+      both-grow (item p (p .first) (destination (p .second))) (pair (p .first) (p .second)) c h
+  add-grows text2label render s p c h =
+      reference-grows
+      (p .second)
+      c
+      (addOf text2label render s p c)
+      (link-grows (item p (p .first) (label (referenceLabel c (p .second)))) (withReference (p .second) c) h)
+  add-grows label2dest render s p c h =
+      target-grows
+      (p .first)
+      c
+      (addOf label2dest render s p c)
+      (block-grows render s p (pair (targetName c (p .first)) (p .second)) (withTarget (p .first) c) h)
+  add-grows label2label render s p c h =
+      target-grows
+      (p .first)
+      c
+      (addOf label2label render s p c)
+      (alias-grows (pair (targetName c (p .first)) (p .second)) (withTarget (p .first) c))
+
+  all-grow :
+      (render : ℕ) (s : List ℕ) (ps : List Placed) (c : Collection) → Places P ps → GrownTo P c (collectFrom render s c ps)
+  unfolding collectFrom
+  all-grow render s [] c h =
+      ((begins-same (c .links), (begins-same (c .label2dest), begins-same (c .label2label))), tt)
+  all-grow render s (p ∷ ps) c h =
+      rw (collect-cons render s c p ps)
+      (then-grows
+      c
+      (add render s p c)
+      (λ d. collectFrom render s d ps)
+      (add-grows (p .kind) render s p c (h .0))
+      (λ d. all-grow render s ps d (h .1)))
+
+-- at any places
+any-places : (ps : List Placed) → Places (λ n. Unit {0}) ps
+any-places [] = tt
+any-places (p ∷ ps) = (tt, any-places ps)
+
+-- behind place p
+behind-places : (p : ℕ) (ps : List Placed) → AllBehind p ps → Places (λ n. p < n) ps
+behind-places p [] w = tt
+behind-places p (x ∷ ps) w = (w .0, behind-places p ps (w .1))
+
+places-behind : (p : ℕ) (xs : List Item) → ItemPlaces (λ n. p < n) xs → ItemsBehind p xs
+places-behind p [] w = tt
+places-behind p (x ∷ xs) w = (w .0, places-behind p xs (w .1))
+
+-- whatever links are added, the collected links, names and aliases stay and others may follow
+pub collect-grows :
+    (render : ℕ) (s : List ℕ) (c : Collection) (ps : List Placed) (d : Collection) → collectFrom render s c ps ≡ collected d
+    → Grown c d
+collect-grows render s c ps d e = subst (GrownTo (λ n. Unit {0}) c) e (all-grow (λ n. Unit {0}) render s ps c (any-places ps)) .0
+
+-- and where those added start behind place p, so do the links that are collected of them
+pub collect-behind :
+    (p render : ℕ) (s : List ℕ) (c : Collection) (ps : List Placed) (d : Collection) → AllBehind p ps
+    → collectFrom render s c ps ≡ collected d → GrownBehind p c d
+collect-behind p render s c ps d h e =
+    let w = subst (GrownTo (λ n. p < n) c) e (all-grow (λ n. p < n) render s ps c (behind-places p ps h)) in
+    (w .0, places-behind p (w .0 .0 .rest) (w .1))
+
+-- Where document s ++ 10 ∷ t is not refused, neither is s, and its links, names and aliases are those of s, and then others; those
+-- links start behind that LF.
+pub collected-lf :
+    (render : ℕ) (s t : List ℕ) → Tail t → Body s → (d : Collection)
+    → collectAll render (s ++ 10 ∷ t) (linksOf (s ++ 10 ∷ t)) ≡ collected d
+    → (c : Collection) × (collectAll render s (linksOf s) ≡ collected c) × GrownBehind (length s) c d
+collected-lf render s t h b d e =
+    let w = collect-lf render s t h b in
+    go (collectAll render s (linksOf s)) refl (w .more) (w .behind) (sym (w .collects) ∙ e)
+  where
+    go :
+        (z : Collected) → collectAll render s (linksOf s) ≡ z → (u : List Placed) → AllBehind (length s) u
+        → andThen z (λ c. collectFrom render (s ++ 10 ∷ t) c u) ≡ collected d
+        → (c : Collection) × (collectAll render s (linksOf s) ≡ collected c) × GrownBehind (length s) c d
+    go (collected c) f u v g = (c, f, collect-behind (length s) render (s ++ 10 ∷ t) c u d v g)
+    go (refused number) f u v g = absurd (let z : _≡_ {A = ℕ} 0 1 = cc in omega arith)

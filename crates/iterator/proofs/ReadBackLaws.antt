@@ -1,0 +1,109 @@
+-- The laws of specs/ReadBack.antt: what was written reads back as the four fields, and as the links of all records.
+-- Assumes nothing.
+use Prim.Native.Nat.{ℕ, zero, suc, _+_, _-_, _*_, _/_, _%_, _≤_}
+use mathlib.Core.Path.{_≡_, refl, sym, ap, _∙_}
+use mathlib.Core.List.{List, [], _∷_, _++_, append-assoc}
+use native.Mathlib.Omega.{arith}
+use native.Mathlib.Nat.{div-div-eq-div-mul}
+use lib.ListN.{length, getD, take, drop}
+use lib.Seq.{take-at, drop-at, drop-drop}
+use Rattle.iterator.specs.Resolve.{Hyperlink}
+use Rattle.iterator.specs.Records.{wordOf, bytes8, recordOf, recordsFrom}
+use Rattle.iterator.specs.Inner.{Fields}
+use Rattle.iterator.specs.ReadBack.{
+  wordAt,
+  skippedOf,
+  consumedOf,
+  textLenOf,
+  destLenOf,
+  linkAtFront,
+  afterFront,
+  linksRead,
+  Packable,
+}
+
+-- the number of eight bytes is the one that was written
+pub word-back : (v : ℕ) (rest : List ℕ) → wordAt (bytes8 v ++ rest) ≡ v
+word-back v rest =
+    omega (
+      arith,
+      div-div-eq-div-mul v 256 256,
+      div-div-eq-div-mul v 65536 256,
+      div-div-eq-div-mul v 16777216 256,
+      div-div-eq-div-mul v 4294967296 256,
+      div-div-eq-div-mul v 1099511627776 256,
+      div-div-eq-div-mul v 281474976710656 256,
+    )
+
+-- its fields are those that were written, and the four bits after them are zero
+module _ (a b c d : ℕ) (h : Fields a b c d) where
+  pub skipped-back : skippedOf (wordOf a b c d) ≡ a
+  skipped-back = omega arith
+
+  pub consumed-back : consumedOf (wordOf a b c d) ≡ b
+  consumed-back = omega arith
+
+  pub text-len-back : textLenOf (wordOf a b c d) ≡ c
+  text-len-back = omega arith
+
+  pub dest-len-back : destLenOf (wordOf a b c d) ≡ d
+  dest-len-back = omega arith
+
+  pub spare-bits : wordOf a b c d % 16 ≡ 0
+  spare-bits = omega arith
+
+module _ (n : ℕ) (x : Hyperlink) (rest : List ℕ) (order : n ≤ x .place)
+    (h : Fields (x .place - n) (x .consumed) (length (x .text)) (length (x .dest))) where
+  word : wordAt (recordOf n x ++ rest) ≡ wordOf (x .place - n) (x .consumed) (length (x .text)) (length (x .dest))
+  word = word-back (wordOf (x .place - n) (x .consumed) (length (x .text)) (length (x .dest))) (x .text ++ x .dest ++ rest)
+
+  text-len : textLenOf (wordAt (recordOf n x ++ rest)) ≡ length (x .text)
+  text-len = ap textLenOf word ∙ text-len-back _ _ _ _ h
+
+  dest-len : destLenOf (wordAt (recordOf n x ++ rest)) ≡ length (x .dest)
+  dest-len = ap destLenOf word ∙ dest-len-back _ _ _ _ h
+
+  place-back : n + skippedOf (wordAt (recordOf n x ++ rest)) ≡ x .place
+  place-back = omega (arith, ap skippedOf word, skipped-back _ _ _ _ h)
+
+  -- its strings stand behind the head
+  dest-front : (k : ℕ) → k ≡ length (x .text) → drop (8 + k) (recordOf n x ++ rest) ≡ x .dest ++ rest
+  dest-front k e =
+      sym (drop-drop k 8 (recordOf n x ++ rest))
+      ∙ ap (drop k) (append-assoc (x .text) (x .dest) rest)
+      ∙ drop-at (x .text) (x .dest ++ rest) k (sym e)
+
+  -- the record of link x reads as x
+  pub link-back : linkAtFront n (recordOf n x ++ rest) ≡ x
+  link-back =
+      λ j. record {
+        place = place-back j;
+        consumed = (ap consumedOf word ∙ consumed-back _ _ _ _ h) j;
+        text =
+            (ap (take (textLenOf (wordAt (recordOf n x ++ rest)))) (append-assoc (x .text) (x .dest) rest)
+            ∙ take-at (x .text) (x .dest ++ rest) _ (sym text-len)) j;
+        dest = (ap (take (destLenOf (wordAt (recordOf n x ++ rest)))) (dest-front _ text-len) ∙ take-at (x .dest) rest _ (sym dest-len)) j;
+      }
+
+  -- and what follows it is left
+  pub after-back : afterFront (recordOf n x ++ rest) ≡ rest
+  after-back =
+      sym (drop-drop (destLenOf (wordAt (recordOf n x ++ rest))) (8 + textLenOf (wordAt (recordOf n x ++ rest))) (recordOf n x ++ rest))
+      ∙ ap (drop (destLenOf (wordAt (recordOf n x ++ rest)))) (dest-front _ text-len)
+      ∙ drop-at (x .dest) rest _ (sym dest-len)
+
+-- the records of links read as those links, whatever follows them
+pub links-back :
+    (n : ℕ) (links : List Hyperlink) (rest : List ℕ) → Packable n links
+    → linksRead (length links) n (recordsFrom n links ++ rest) ≡ links
+unfolding linksRead recordsFrom Packable
+links-back n [] rest h = refl
+links-back n (x ∷ links) rest h =
+    let more = recordsFrom (x .place + x .consumed) links ++ rest in
+    let a : (recordOf n x ++ recordsFrom (x .place + x .consumed) links) ++ rest
+    ≡ recordOf n x ++ more = append-assoc (recordOf n x) _ rest in
+    ap (linksRead (suc (length links)) n) a
+    ∙ (λ j. link-back n x more (h .0) (h .1 .0) j
+    ∷ linksRead (length links) (link-back n x more (h .0) (h .1 .0) j .place + link-back n x more (h .0) (h .1 .0) j .consumed)
+    (after-back n x more (h .0) (h .1 .0) j))
+    ∙ ap (λ (l : List Hyperlink). x ∷ l) (links-back (x .place + x .consumed) links rest (h .1 .1))

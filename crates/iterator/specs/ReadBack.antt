@@ -1,0 +1,58 @@
+-- Records read back: the four fields of the eight bytes, the link of a record, and the links of several.
+-- Assumes nothing.
+use Prim.Native.Nat.{ℕ, zero, suc, _+_, _-_, _*_, _/_, _%_, _≤_}
+use mathlib.Core.List.{List, [], _∷_}
+use lib.ListN.{length, getD, take, drop}
+use Rattle.iterator.specs.Resolve.{Hyperlink}
+use Rattle.iterator.specs.Inner.{Fields}
+
+-- the number of the first eight bytes
+abbrev pub wordAt : List ℕ → ℕ
+wordAt s =
+    getD s 0 0 * 72057594037927936
+    + getD s 1 0 * 281474976710656
+    + getD s 2 0 * 1099511627776
+    + getD s 3 0 * 4294967296
+    + getD s 4 0 * 16777216
+    + getD s 5 0 * 65536
+    + getD s 6 0 * 256
+    + getD s 7 0
+
+-- the fields of a number, most significant bit first
+abbrev pub skippedOf : ℕ → ℕ
+skippedOf v = v / 562949953421312
+
+abbrev pub consumedOf : ℕ → ℕ
+consumedOf v = v / 17179869184 % 32768
+
+abbrev pub textLenOf : ℕ → ℕ
+textLenOf v = v / 524288 % 32768
+
+abbrev pub destLenOf : ℕ → ℕ
+destLenOf v = v / 16 % 32768
+
+-- the link of the record at the front of s; the link before ended at place n
+abbrev pub linkAtFront : ℕ → List ℕ → Hyperlink
+linkAtFront n s =
+    record {
+      place = n + skippedOf (wordAt s);
+      consumed = consumedOf (wordAt s);
+      text = take (textLenOf (wordAt s)) (drop 8 s);
+      dest = take (destLenOf (wordAt s)) (drop (8 + textLenOf (wordAt s)) s);
+    }
+
+-- what follows that record
+abbrev pub afterFront : List ℕ → List ℕ
+afterFront s = drop (8 + textLenOf (wordAt s) + destLenOf (wordAt s)) s
+
+-- the links of k records
+unfoldable pub linksRead : ℕ → ℕ → List ℕ → List Hyperlink
+linksRead zero n s = []
+linksRead (suc k) n s = linkAtFront n s ∷ linksRead k (linkAtFront n s .place + linkAtFront n s .consumed) (afterFront s)
+
+-- links in order, with fields of 15 bits
+unfoldable pub Packable : ℕ → List Hyperlink → Type 0
+Packable n [] = Unit {0}
+Packable n (x ∷ rest) =
+    (n ≤ x .place)
+    × (Fields (x .place - n) (x .consumed) (length (x .text)) (length (x .dest)) × Packable (x .place + x .consumed) rest)

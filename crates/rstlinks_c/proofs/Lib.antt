@@ -1,0 +1,2 @@
+-- `TakenLaws`: what the single-link call answers, in numbers.
+mod TakenLaws
