@@ -74,10 +74,10 @@ extern "C" {
 
 /* An output that suffices for every document of so many bytes: no string of a
  * record is longer than the document. The second is that of the longest, some
- * 8 MiB. Most notes need little more than their own length: lend that, and where
- * 7 is returned lend as many bytes as it says; a call with output_len 0 asks for
- * the size alone. */
-#define RST_OUTPUT_ENOUGH(document_len) (256 * (8 + 2 * (size_t)(document_len)))
+ * 8 MiB. To lend less, lend as many bytes as the document has, and where 7 is
+ * returned as many as it says; a call with output_len 0 asks for the size alone. */
+#define RST_OUTPUT_ENOUGH(document_len) \
+    (RST_LINKS_MAX * (RST_RECORD_HEAD + 2 * (size_t)(document_len)))
 #define RST_OUTPUT_MAX 8390656
 
 /* A buffer that suffices for either string of rst_take_link(). */
@@ -140,7 +140,8 @@ typedef struct {
  * reaches none is left out. The strings are as a reader would see them, their
  * escapes resolved; a reference without a text shows its destination as its text.
  * With render 1 every block that gives a name a destination is a link as well, its
- * text the block's own bytes as they stand; with render 0 it is none. A document
+ * text the block's own bytes as they stand; with render 0 it is none. A block
+ * directly behind a link, on its line, belongs to that link and is none. A document
  * without links is accepted, with 0 links and 0 bytes.
  *
  * numbers and bytes are the work areas, at least RST_NUMBERS_MIN and

@@ -1,4 +1,5 @@
-/* Prints the links of notes: place, bytes consumed, text, destination.
+/* Prints the links of notes: place, bytes consumed, text, destination; and then the
+ * links as they stand: place, kind, both strings.
  *
  *     links RENDER NOTE..
  *
@@ -29,6 +30,10 @@ static size_t load(const char *name, uint8_t *document) {
         exit(2);
     }
     size_t length = fread(document, 1, RST_DOCUMENT_MAX + 1, file);
+    if (ferror(file)) {
+        perror(name);
+        exit(2);
+    }
     fclose(file);
     return length;
 }
@@ -92,6 +97,30 @@ static void print_links(const uint8_t *record, uint32_t links) {
     }
 }
 
+/* A line for each link as it stands, and one for the place behind which there is none. */
+static void print_standing(const uint8_t *document, size_t length) {
+    static const char *const kinds[] = {
+        [RST_TEXT2DEST] = "Text2Dest",     [RST_TEXTLABEL2DEST] = "TextLabel2Dest",
+        [RST_TEXT2LABEL] = "Text2Label",   [RST_LABEL2DEST] = "Label2Dest",
+        [RST_LABEL2LABEL] = "Label2Label",
+    };
+    static uint8_t first[RST_STRING_MAX], second[RST_STRING_MAX];
+    size_t place = 0;
+    for (;;) {
+        rst_link link =
+            rst_take_link(document, length, place, first, RST_STRING_MAX, second, RST_STRING_MAX);
+        if (link.number != RST_ACCEPTED) {
+            printf("%zu %s\n", place, link.number == RST_NO_LINK ? "no link" : "refused");
+            return;
+        }
+        printf("%zu %s", place + link.skipped, kinds[link.kind]);
+        print_string(first, link.first);
+        print_string(second, link.second);
+        printf("\n");
+        place += link.skipped + link.consumed;
+    }
+}
+
 /* Reads a note, prints its links or its refusal, and says whether it was read. */
 static int show(areas *lent, uint32_t render, const char *name) {
     static uint8_t document[RST_DOCUMENT_MAX + 1];
@@ -105,17 +134,27 @@ static int show(areas *lent, uint32_t render, const char *name) {
     }
     printf("links %" PRIu32 ", bytes %" PRIu32 "\n", outcome.links, outcome.bytes);
     print_links(lent->output, outcome.links);
+    printf("as they stand\n");
+    print_standing(document, length);
     return 1;
+}
+
+/* Reads a word as a number of 32 bits, and says whether it is one. */
+static int number(const char *word, uint32_t *value) {
+    char *end;
+    unsigned long long read = strtoull(word, &end, 10);
+    *value = (uint32_t)read;
+    return *word >= '0' && *word <= '9' && *end == '\0' && read <= UINT32_MAX;
 }
 
 int main(int count, char **words) {
     static areas lent;
     int status = 0;
-    if (count < 3) {
+    uint32_t render;
+    if (count < 3 || !number(words[1], &render)) {
         fprintf(stderr, "usage: links RENDER NOTE..\n");
         return 2;
     }
-    uint32_t render = (uint32_t)strtoul(words[1], NULL, 10);
     for (int i = 2; i < count; i++) {
         if (!show(&lent, render, words[i])) {
             status = 1;

@@ -1,4 +1,5 @@
-//! Prints the links of notes: place, bytes consumed, text, destination.
+//! Prints the links of notes: place, bytes consumed, text, destination; and then
+//! the links as they stand: place, kind, both strings.
 //!
 //!     links RENDER NOTE..
 //!
@@ -18,10 +19,33 @@ struct Outcome {
     bytes: u32,
 }
 
+/// The same of a link as it stands.
+#[repr(C)]
+struct Standing {
+    number: u32,
+    bytes: u32,
+    kind: u32,
+    skipped: u32,
+    consumed: u32,
+    first: u32,
+    second: u32,
+}
+
 const ACCEPTED: u32 = 0;
 const TOO_SHORT: u32 = 7;
+const NO_LINK: u32 = 9;
 const NUMBERS_MIN: usize = 4_096;
 const BYTES_MIN: usize = 49_152;
+const STRING_MAX: usize = 16_384;
+
+/// The kinds, from 1 on.
+const KINDS: [&str; 5] = [
+    "Text2Dest",
+    "TextLabel2Dest",
+    "Text2Label",
+    "Label2Dest",
+    "Label2Label",
+];
 
 #[link(name = "rstlinks_c", kind = "static")]
 unsafe extern "C" {
@@ -36,6 +60,16 @@ unsafe extern "C" {
         output: *mut u8,
         output_len: usize,
     ) -> Outcome;
+
+    fn rst_take_link(
+        document: *const u8,
+        document_len: usize,
+        place: usize,
+        first: *mut u8,
+        first_len: usize,
+        second: *mut u8,
+        second_len: usize,
+    ) -> Standing;
 }
 
 /// A link of a note. The strings are parts of the records.
@@ -105,9 +139,12 @@ impl Reader {
     }
 }
 
+fn string(bytes: &[u8]) -> &str {
+    str::from_utf8(bytes).expect("a part of a document of UTF-8")
+}
+
 /// The links that records hold.
 fn links_in(records: &[u8]) -> Vec<Link<'_>> {
-    let string = |bytes| str::from_utf8(bytes).expect("a part of a document of UTF-8");
     let mut links = Vec::new();
     let mut rest = records;
     let mut end = 0;
@@ -128,6 +165,46 @@ fn links_in(records: &[u8]) -> Vec<Link<'_>> {
     links
 }
 
+/// The first link from a place on, as it stands.
+fn take(note: &[u8], place: usize, first: &mut [u8], second: &mut [u8]) -> Standing {
+    // As for the other call.
+    unsafe {
+        rst_take_link(
+            note.as_ptr(),
+            note.len(),
+            place,
+            first.as_mut_ptr(),
+            first.len(),
+            second.as_mut_ptr(),
+            second.len(),
+        )
+    }
+}
+
+/// Says a line for each link as it stands, and one for the place behind which
+/// there is none.
+fn say_standing(note: &[u8], said: &mut String) {
+    let (mut first, mut second) = (vec![0; STRING_MAX], vec![0; STRING_MAX]);
+    let mut place = 0;
+    loop {
+        let link = take(note, place, &mut first, &mut second);
+        if link.number != ACCEPTED {
+            let none = link.number == NO_LINK;
+            _ = writeln!(said, "{place} {}", if none { "no link" } else { "refused" });
+            return;
+        }
+        _ = writeln!(
+            said,
+            "{} {} \"{}\" \"{}\"",
+            place + link.skipped as usize,
+            KINDS[link.kind as usize - 1],
+            string(&first[..link.first as usize]),
+            string(&second[..link.second as usize])
+        );
+        place += (link.skipped + link.consumed) as usize;
+    }
+}
+
 /// What is said of a note, and whether it was read.
 fn show(render: u32, name: &str, note: &[u8]) -> (String, bool) {
     let mut said = format!("note {name}\n");
@@ -143,6 +220,8 @@ fn show(render: u32, name: &str, note: &[u8]) -> (String, bool) {
                     link.place, link.consumed, link.text, link.destination
                 );
             }
+            said.push_str("as they stand\n");
+            say_standing(note, &mut said);
             (said, true)
         }
         Err(Refused { number, bytes }) => {
@@ -152,14 +231,21 @@ fn show(render: u32, name: &str, note: &[u8]) -> (String, bool) {
     }
 }
 
+/// Says why nothing can be done, and ends.
+fn fail(why: &str) -> ! {
+    eprintln!("{why}");
+    exit(2);
+}
+
 fn main() {
+    const USAGE: &str = "usage: links RENDER NOTE..";
     let words: Vec<String> = env::args().collect();
-    let [_, render, names @ ..] = words.as_slice() else {
-        eprintln!("usage: links RENDER NOTE..");
-        exit(2);
+    let [_, render, _, ..] = words.as_slice() else {
+        fail(USAGE);
     };
-    let render = render.parse().expect("render is a number");
-    let load = |name: &String| fs::read(name).expect("the note can be read");
+    let names = &words[2..];
+    let render = render.parse().unwrap_or_else(|_| fail(USAGE));
+    let load = |name: &String| fs::read(name).unwrap_or_else(|why| fail(&format!("{name}: {why}")));
     let notes: Vec<(&String, Vec<u8>)> = names.iter().map(|name| (name, load(name))).collect();
     let answers: Vec<(String, bool)> = thread::scope(|scope| {
         let started: Vec<_> = notes

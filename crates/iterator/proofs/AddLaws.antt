@@ -1,60 +1,24 @@
 -- A link that was found is added to the tables as its case says: its strings stand behind the bytes that were taken, and a label or a
 -- name that is _ is written behind them.
 -- Assumes nothing.
-use Prim.Native.Nat.{ℕ, _+_, _-_, _*_, _<_, _≤_}
+use Prim.Native.Nat.{ℕ, _+_, _≤_}
 use native.Mathlib.Omega.{arith}
-use mathlib.Core.Path.{_≡_, refl, sym, ap, subst, _∙_}
-use mathlib.Core.List.{List, map}
-use mathlib.Core.Bool.{true, false}
-use lib.Dec.{eqb}
+use mathlib.Core.Path.{_≡_, sym, ap, subst, _∙_}
+use mathlib.Core.List.{List}
 use lib.ListN.{length, take, drop}
 use lib.Seq.{drop-drop}
 use borrow.Author.Tests.{eq-eqb, ne-eqb}
 use Rattle.restructured_text.specs.declared.Span.{Span}
 use Rattle.restructured_text.specs.Strings.{part}
-use Rattle.parse.specs.Link.{Kind, text2dest, text-label2dest, text2label, label2dest, label2label}
+use Rattle.parse.specs.Link.{Kind, text2label, label2dest, label2label}
 use Rattle.parse.specs.Links.{Placed, placed}
 use Rattle.iterator.specs.declared.rows.PairRow.{PairRow}
 use Rattle.iterator.specs.declared.rows.LinkRow.{LinkRow}
 use Rattle.iterator.specs.declared.collect.MarkupLinkCollection.{MarkupLinkCollection}
 use Rattle.iterator.specs.declared.collect.Labelled.{Labelled}
 use Rattle.iterator.specs.declared.collect.Step.{Step}
-use Rattle.iterator.specs.Collect.{
-  Pair,
-  pair,
-  Item,
-  item,
-  destination,
-  label,
-  Collection,
-  Collected,
-  andThen,
-  addLink,
-  addDestination,
-  addAlias,
-  addBlock,
-  addOf,
-  referenceLabel,
-  withReference,
-  targetName,
-  withTarget,
-  consumedBytes,
-}
-use Rattle.iterator.specs.Rows.{
-  pairRows,
-  linkRows,
-  pairsOf,
-  itemsOf,
-  pairOf,
-  itemOf,
-  destinationsAt,
-  aliasesAt,
-  SpanWithin,
-  PairWithin,
-  LinkWithin,
-  PairsWithin,
-  LinksWithin,
-}
+use Rattle.iterator.specs.Collect.{Pair, pair, Item, item, destination, label, Collection, Collected, andThen, addLink, addDestination, addAlias, addBlock, addOf, withReference, targetName, withTarget, consumedBytes}
+use Rattle.iterator.specs.Rows.{pairRows, linkRows, pairsOf, itemsOf, pairOf, itemOf, destinationsAt, aliasesAt, PairWithin, LinkWithin, PairsWithin, LinksWithin}
 use Rattle.iterator.specs.Inner.{
   Tables,
   Held,

@@ -1,7 +1,7 @@
 -- The laws of `specs/Collect.antt` on appended text: LF and a tail behind a document leave what it collects as it was, and add to it at the
 -- ends. What is collected of a link depends on the document only by the bytes that the link consumed.
 -- Assumes nothing.
-use Prim.Native.Nat.{ℕ, _+_, _<_, _≤_}
+use Prim.Native.Nat.{ℕ, _+_, _≤_}
 use native.Mathlib.Omega.{arith}
 use mathlib.Core.Path.{_≡_, refl, ap, sym, subst, _∙_}
 use mathlib.Core.List.{List, [], _∷_, _++_, append-nil, append-assoc}
@@ -48,7 +48,18 @@ use Rattle.iterator.specs.Collect.{
   collectAll,
   new,
 }
-use Rattle.iterator.specs.Laws.{ItemsBehind, Begins, Grown, GrownBehind, CollectsOn}
+use Rattle.iterator.specs.Laws.{
+  ItemsBehind,
+  From,
+  ends,
+  drops,
+  takes,
+  Begins,
+  Grown,
+  GrownFrom,
+  GrownBehind,
+  CollectsOn,
+}
 use Rattle.iterator.proofs.CollectingLaws.{collect-append}
 
 -- Links that end within s
@@ -80,7 +91,7 @@ add-append label2dest render s u p c h =
 add-append label2label render s u p c h = refl
 
 -- links that are apart and end by place m
-apart-ends : (n m : ℕ) (ps : List Placed) → Apart n m ps → n ≤ m
+pub apart-ends : (n m : ℕ) (ps : List Placed) → Apart n m ps → n ≤ m
 apart-ends n m [] a = a
 apart-ends n m (p ∷ ps) a =
     let h = apart-ends (p .place + p .consumed) m ps (a .1) in
@@ -151,151 +162,147 @@ abbrev begins-trans : {A : Type 0} {xs ys zs : List A} → Begins xs ys → Begi
 begins-trans {xs = xs} v w =
     record { rest = v .rest ++ w .rest; is = w .is ∙ rw (v .is) (append-assoc xs (v .rest) (w .rest)) }
 
--- all places at which links start are such
-abbrev Places : (ℕ → Type 0) → List Placed → Type 0
-Places P [] = Unit {0}
-Places P (p ∷ ps) = P (p .place) × Places P ps
+-- items of no link, of one link, of the links of two lists
+from-append : {xs ys : List Item} {ps qs : List Placed} → From xs ps → From ys qs → From (xs ++ ys) (ps ++ qs)
+from-append ends w = w
+from-append (drops v) w = drops (from-append v w)
+from-append (takes e f v) w = takes e f (from-append v w)
 
-abbrev ItemPlaces : (ℕ → Type 0) → List Item → Type 0
-ItemPlaces P [] = Unit {0}
-ItemPlaces P (x ∷ xs) = P (x .place) × ItemPlaces P xs
+-- c grew to z, unless that is a refusal, and the links that z has besides are those of some of the links ps
+abbrev GrownTo : List Placed → Collection → Collected → Type 0
+GrownTo ps c (collected d) = (g : Grown c d) × From (g .0 .rest) ps
+GrownTo ps c (refused number) = Unit {0}
 
--- c grew to z, unless that is a refusal, and the links that z has besides start at such places
-abbrev GrownTo : (ℕ → Type 0) → Collection → Collected → Type 0
-GrownTo P c (collected d) = (g : Grown c d) × ItemPlaces P (g .0 .rest)
-GrownTo P c (refused number) = Unit {0}
+link-grows :
+    (p : Placed) (x : Item) (c : Collection) → x .place ≡ p .place → x .consumed ≡ p .consumed
+    → GrownTo (p ∷ []) c (addLink x c)
+link-grows p x c e f = go (ltb (length (c .links)) linksMax)
+  where
+    go : (t : Bool) → GrownTo (p ∷ []) c (elim t [ true ↦ collected (withLink x c) | false ↦ refused 5 ])
+    go true =
+        ((begins-more (c .links) (x ∷ []), (begins-same (c .label2dest), begins-same (c .label2label))), takes e f ends)
+    go false = tt
 
-module _ (P : ℕ → Type 0) where
-  places-append : (xs ys : List Item) → ItemPlaces P xs → ItemPlaces P ys → ItemPlaces P (xs ++ ys)
-  places-append [] ys v w = w
-  places-append (x ∷ xs) ys v w = (v .0, places-append xs ys (v .1) w)
+destination-grows : (ps : List Placed) (x : Pair) (c : Collection) → From [] ps → GrownTo ps c (addDestination x c)
+destination-grows ps x c w = go (ltb (definitions c) definitionsMax)
+  where
+    go : (t : Bool) → GrownTo ps c (elim t [ true ↦ collected (withDestination x c) | false ↦ refused 6 ])
+    go true = ((begins-same (c .links), (begins-more (c .label2dest) (x ∷ []), begins-same (c .label2label))), w)
+    go false = tt
 
-  link-grows : (x : Item) (c : Collection) → P (x .place) → GrownTo P c (addLink x c)
-  link-grows x c h = go (ltb (length (c .links)) linksMax)
-    where
-      go : (t : Bool) → GrownTo P c (elim t [ true ↦ collected (withLink x c) | false ↦ refused 5 ])
-      go true = ((begins-more (c .links) (x ∷ []), (begins-same (c .label2dest), begins-same (c .label2label))), (h, tt))
-      go false = tt
+alias-grows : (p : Placed) (x : Pair) (c : Collection) → GrownTo (p ∷ []) c (addAlias x c)
+alias-grows p x c = go (ltb (definitions c) definitionsMax)
+  where
+    go : (t : Bool) → GrownTo (p ∷ []) c (elim t [ true ↦ collected (withAlias x c) | false ↦ refused 6 ])
+    go true = ((begins-same (c .links), (begins-same (c .label2dest), begins-more (c .label2label) (x ∷ []))), drops ends)
+    go false = tt
 
-  destination-grows : (x : Pair) (c : Collection) → GrownTo P c (addDestination x c)
-  destination-grows x c = go (ltb (definitions c) definitionsMax)
-    where
-      go : (t : Bool) → GrownTo P c (elim t [ true ↦ collected (withDestination x c) | false ↦ refused 6 ])
-      go true = ((begins-same (c .links), (begins-more (c .label2dest) (x ∷ []), begins-same (c .label2label))), tt)
-      go false = tt
+-- what is only counted is no link, name or alias
+reference-grows :
+    (ps : List Placed) (x : List ℕ) (c : Collection) (z : Collected) → GrownTo ps (withReference x c) z → GrownTo ps c z
+reference-grows ps x c (collected d) v = v
+reference-grows ps x c (refused number) v = v
 
-  alias-grows : (x : Pair) (c : Collection) → GrownTo P c (addAlias x c)
-  alias-grows x c = go (ltb (definitions c) definitionsMax)
-    where
-      go : (t : Bool) → GrownTo P c (elim t [ true ↦ collected (withAlias x c) | false ↦ refused 6 ])
-      go true = ((begins-same (c .links), (begins-same (c .label2dest), begins-more (c .label2label) (x ∷ []))), tt)
-      go false = tt
+target-grows :
+    (ps : List Placed) (x : List ℕ) (c : Collection) (z : Collected) → GrownTo ps (withTarget x c) z → GrownTo ps c z
+target-grows ps x c (collected d) v = v
+target-grows ps x c (refused number) v = v
 
-  -- what is only counted is no link, name or alias
-  reference-grows : (x : List ℕ) (c : Collection) (z : Collected) → GrownTo P (withReference x c) z → GrownTo P c z
-  reference-grows x c (collected d) v = v
-  reference-grows x c (refused number) v = v
+-- one after the other
+then-grows :
+    (ps qs : List Placed) (c : Collection) (z : Collected) (f : Collection → Collected) → GrownTo ps c z
+    → ((d : Collection) → GrownTo qs d (f d)) → GrownTo (ps ++ qs) c (andThen z f)
+then-grows ps qs c (refused number) f v w = tt
+then-grows ps qs c (collected d) f v w = go (f d) (w d)
+  where
+    go : (z : Collected) → GrownTo qs d z → GrownTo (ps ++ qs) c z
+    go (refused number) w = tt
+    go (collected e) w = (
+      (begins-trans (v .0 .0) (w .0 .0), (begins-trans (v .0 .1 .0) (w .0 .1 .0), begins-trans (v .0 .1 .1) (w .0 .1 .1))),
+      from-append (v .1) (w .1),
+    )
 
-  target-grows : (x : List ℕ) (c : Collection) (z : Collected) → GrownTo P (withTarget x c) z → GrownTo P c z
-  target-grows x c (collected d) v = v
-  target-grows x c (refused number) v = v
+both-grow :
+    (p : Placed) (x : Item) (y : Pair) (c : Collection) → x .place ≡ p .place → x .consumed ≡ p .consumed
+    → GrownTo (p ∷ []) c (andThen (addLink x c) (addDestination y))
+both-grow p x y c e f =
+    then-grows (p ∷ []) [] c (addLink x c) (addDestination y) (link-grows p x c e f) (λ d. destination-grows [] y d ends)
 
-  -- one after the other
-  then-grows :
-      (c : Collection) (z : Collected) (f : Collection → Collected) → GrownTo P c z → ((d : Collection) → GrownTo P d (f d))
-      → GrownTo P c (andThen z f)
-  then-grows c (refused number) f v w = tt
-  then-grows c (collected d) f v w = go (f d) (w d)
-    where
-      go : (z : Collected) → GrownTo P d z → GrownTo P c z
-      go (refused number) w = tt
-      go (collected e) w = (
-        (
-          begins-trans (v .0 .0) (w .0 .0),
-          (begins-trans (v .0 .1 .0) (w .0 .1 .0), begins-trans (v .0 .1 .1) (w .0 .1 .1)),
-        ),
-        places-append (v .0 .0 .rest) (w .0 .0 .rest) (v .1) (w .1),
-      )
+block-grows :
+    (render : ℕ) (s : List ℕ) (p : Placed) (x : Pair) (c : Collection) → GrownTo (p ∷ []) c (addBlock render s p x c)
+block-grows render s p x c = go (eqb render 1)
+  where
+    go :
+        (t : Bool)
+        → GrownTo
+        (p ∷ [])
+        c
+        (elim t [
+          | true ↦ andThen (addLink (item p (consumedBytes s p) (destination (p .second))) c) (addDestination x)
+          | false ↦ addDestination x c
+        ])
+    go true = both-grow p (item p (consumedBytes s p) (destination (p .second))) x c refl refl
+    go false = destination-grows (p ∷ []) x c (drops ends)
 
-  both-grow :
-      (x : Item) (y : Pair) (c : Collection) → P (x .place) → GrownTo P c (andThen (addLink x c) (addDestination y))
-  both-grow x y c h = then-grows c (addLink x c) (addDestination y) (link-grows x c h) (destination-grows y)
+-- one link of the document more
+add-grows : (k : Kind) (render : ℕ) (s : List ℕ) (p : Placed) (c : Collection) → GrownTo (p ∷ []) c (addOf k render s p c)
+add-grows text2dest render s p c = link-grows p (item p (p .first) (destination (p .second))) c refl refl
+add-grows text-label2dest render s p c =
+    both-grow p (item p (p .first) (destination (p .second))) (pair (p .first) (p .second)) c refl refl
+add-grows text2label render s p c =
+    reference-grows
+    (p ∷ [])
+    (p .second)
+    c
+    (addOf text2label render s p c)
+    (link-grows p (item p (p .first) (label (referenceLabel c (p .second)))) (withReference (p .second) c) refl refl)
+add-grows label2dest render s p c =
+    target-grows
+    (p ∷ [])
+    (p .first)
+    c
+    (addOf label2dest render s p c)
+    (block-grows render s p (pair (targetName c (p .first)) (p .second)) (withTarget (p .first) c))
+add-grows label2label render s p c =
+    target-grows
+    (p ∷ [])
+    (p .first)
+    c
+    (addOf label2label render s p c)
+    (alias-grows p (pair (targetName c (p .first)) (p .second)) (withTarget (p .first) c))
 
-  block-grows :
-      (render : ℕ) (s : List ℕ) (p : Placed) (x : Pair) (c : Collection) → P (p .place) → GrownTo P c (addBlock render s p x c)
-  block-grows render s p x c h = go (eqb render 1) (item p (consumedBytes s p) (destination (p .second))) h
-    where
-      go :
-          (t : Bool) (y : Item) → P (y .place)
-          → GrownTo P c (elim t [ true ↦ andThen (addLink y c) (addDestination x) | false ↦ addDestination x c ])
-      go true y g = both-grow y x c g
-      go false y g = destination-grows x c
+all-grow : (render : ℕ) (s : List ℕ) (ps : List Placed) (c : Collection) → GrownTo ps c (collectFrom render s c ps)
+unfolding collectFrom
+all-grow render s [] c = ((begins-same (c .links), (begins-same (c .label2dest), begins-same (c .label2label))), ends)
+all-grow render s (p ∷ ps) c =
+    rw (collect-cons render s c p ps)
+    (then-grows
+    (p ∷ [])
+    ps
+    c
+    (add render s p c)
+    (λ d. collectFrom render s d ps)
+    (add-grows (p .kind) render s p c)
+    (λ d. all-grow render s ps d))
 
-  -- one link of the document more
-  add-grows : (k : Kind) (render : ℕ) (s : List ℕ) (p : Placed) (c : Collection) → P (p .place) → GrownTo P c (addOf k render s p c)
-  add-grows text2dest render s p c h = link-grows (item p (p .first) (destination (p .second))) c h
-  add-grows text-label2dest render s p c h =
-      both-grow (item p (p .first) (destination (p .second))) (pair (p .first) (p .second)) c h
-  add-grows text2label render s p c h =
-      reference-grows
-      (p .second)
-      c
-      (addOf text2label render s p c)
-      (link-grows (item p (p .first) (label (referenceLabel c (p .second)))) (withReference (p .second) c) h)
-  add-grows label2dest render s p c h =
-      target-grows
-      (p .first)
-      c
-      (addOf label2dest render s p c)
-      (block-grows render s p (pair (targetName c (p .first)) (p .second)) (withTarget (p .first) c) h)
-  add-grows label2label render s p c h =
-      target-grows
-      (p .first)
-      c
-      (addOf label2label render s p c)
-      (alias-grows (pair (targetName c (p .first)) (p .second)) (withTarget (p .first) c))
-
-  all-grow :
-      (render : ℕ) (s : List ℕ) (ps : List Placed) (c : Collection) → Places P ps → GrownTo P c (collectFrom render s c ps)
-  unfolding collectFrom
-  all-grow render s [] c h =
-      ((begins-same (c .links), (begins-same (c .label2dest), begins-same (c .label2label))), tt)
-  all-grow render s (p ∷ ps) c h =
-      rw (collect-cons render s c p ps)
-      (then-grows
-      c
-      (add render s p c)
-      (λ d. collectFrom render s d ps)
-      (add-grows (p .kind) render s p c (h .0))
-      (λ d. all-grow render s ps d (h .1)))
-
--- at any places
-any-places : (ps : List Placed) → Places (λ n. Unit {0}) ps
-any-places [] = tt
-any-places (p ∷ ps) = (tt, any-places ps)
-
--- behind place p
-behind-places : (p : ℕ) (ps : List Placed) → AllBehind p ps → Places (λ n. p < n) ps
-behind-places p [] w = tt
-behind-places p (x ∷ ps) w = (w .0, behind-places p ps (w .1))
-
-places-behind : (p : ℕ) (xs : List Item) → ItemPlaces (λ n. p < n) xs → ItemsBehind p xs
-places-behind p [] w = tt
-places-behind p (x ∷ xs) w = (w .0, places-behind p xs (w .1))
-
--- whatever links are added, the collected links, names and aliases stay and others may follow
+-- The collected links, names and aliases stay, and others may follow; those links are of the links that are added, in their order.
 pub collect-grows :
     (render : ℕ) (s : List ℕ) (c : Collection) (ps : List Placed) (d : Collection) → collectFrom render s c ps ≡ collected d
-    → Grown c d
-collect-grows render s c ps d e = subst (GrownTo (λ n. Unit {0}) c) e (all-grow (λ n. Unit {0}) render s ps c (any-places ps)) .0
+    → GrownFrom ps c d
+collect-grows render s c ps d e = subst (GrownTo ps c) e (all-grow render s ps c)
 
--- and where those added start behind place p, so do the links that are collected of them
+from-behind : (p : ℕ) {xs : List Item} {ps : List Placed} → From xs ps → AllBehind p ps → ItemsBehind p xs
+from-behind p ends w = tt
+from-behind p (drops v) w = from-behind p v (w .1)
+from-behind p (takes e f v) w = (rw e (w .0), from-behind p v (w .1))
+
+-- so they start behind place p where the links do
 pub collect-behind :
     (p render : ℕ) (s : List ℕ) (c : Collection) (ps : List Placed) (d : Collection) → AllBehind p ps
     → collectFrom render s c ps ≡ collected d → GrownBehind p c d
 collect-behind p render s c ps d h e =
-    let w = subst (GrownTo (λ n. p < n) c) e (all-grow (λ n. p < n) render s ps c (behind-places p ps h)) in
-    (w .0, places-behind p (w .0 .0 .rest) (w .1))
+    let w = collect-grows render s c ps d e in
+    (w .0, from-behind p (w .1) h)
 
 -- Where document s ++ 10 ∷ t is not refused, neither is s, and its links, names and aliases are those of s, and then others; those
 -- links start behind that LF.

@@ -1,103 +1,26 @@
 -- Collecting in the work areas is collecting: a row more in a table is a link, a name or an alias more; a numbered label or name stands
 -- behind what is taken, so the strings of the rows are as they were.
 -- Assumes nothing.
-use Prim.Native.Nat.{ℕ, zero, suc, _+_, _-_, _*_, _<_, _≤_}
+use Prim.Native.Nat.{ℕ, zero, suc, _+_, _*_, _<_, _≤_}
 use native.Mathlib.Nat.{zero-add}
 use native.Mathlib.Omega.{arith}
 use mathlib.Core.Path.{_≡_, refl, sym, ap, subst, _∙_}
 use mathlib.Core.Logic.{_⊎_, inl, inr}
 use mathlib.Core.List.{List, [], _∷_, _++_, map}
 use mathlib.Core.Bool.{Bool, true, false, true≢false}
-use lib.Dec.{ltb, eqb}
-use lib.ListN.{length, take, drop}
+use lib.ListN.{length}
 use borrow.Author.Tests.{lt-ltb, le-ltb}
 use Rattle.rst_bytes.proofs.TestLaws.{lt-or-le}
-use Rattle.restructured_text.specs.declared.Span.{Span}
-use Rattle.restructured_text.specs.Strings.{part}
-use Rattle.parse.specs.Link.{Kind, text2dest, text-label2dest, text2label, label2dest, label2label}
-use Rattle.parse.specs.Links.{Placed}
+use Rattle.parse.specs.Link.{label2dest, label2label}
 use Rattle.iterator.specs.declared.rows.PairRow.{PairRow}
 use Rattle.iterator.specs.declared.rows.LinkRow.{LinkRow}
 use Rattle.iterator.specs.declared.collect.MarkupLinkCollection.{MarkupLinkCollection}
-use Rattle.iterator.specs.declared.collect.Labelled.{Labelled}
 use Rattle.iterator.specs.declared.collect.Step.{Step}
 use Rattle.iterator.specs.declared.collect.Step.the-variants.{Next, Refused}
-use Rattle.iterator.specs.Collect.{
-  Pair,
-  Item,
-  Collection,
-  Collected,
-  collected,
-  refused,
-  andThen,
-  addLink,
-  addDestination,
-  addAlias,
-  addOf,
-  withLink,
-  withDestination,
-  withAlias,
-  withReference,
-  withTarget,
-  definitions,
-  isAnonymous,
-}
-use Rattle.iterator.specs.Rows.{
-  pairRows,
-  linkRows,
-  pairsOf,
-  itemsOf,
-  pairOf,
-  itemOf,
-  putPair,
-  putLink,
-  destinationsAt,
-  aliasesAt,
-  SpanWithin,
-  PairWithin,
-  LinkWithin,
-  PairsWithin,
-  LinksWithin,
-}
-use Rattle.iterator.specs.Inner.{
-  Tables,
-  Held,
-  StepHeld,
-  collectionOf,
-  stepOf,
-  oneLink,
-  oneDestination,
-  oneAlias,
-  names,
-  ifRoom,
-  linkAdded,
-  withLinkRow,
-  destinationAdded,
-  withDestinationRow,
-  aliasAdded,
-  withAliasRow,
-  bothAdded,
-  withBothRows,
-  LabelledBy,
-  Counted,
-}
-use Rattle.iterator.proofs.RowsLaws.{
-  length-put-link,
-  pairs-put,
-  links-put,
-  pairs-pair-after,
-  pairs-pair-before,
-  links-pair-after,
-  pairs-link-before,
-  pairs-within-snoc,
-  links-within-snoc,
-  pairs-within-wider,
-  links-within-wider,
-  part-kept,
-  pairs-kept,
-  items-kept,
-  map-snoc,
-}
+use Rattle.iterator.specs.Collect.{Pair, Item, Collection, Collected, collected, refused, andThen, addLink, addDestination, addAlias, withLink, withDestination, withAlias, definitions}
+use Rattle.iterator.specs.Rows.{pairRows, linkRows, pairsOf, itemsOf, pairOf, itemOf, putPair, putLink, destinationsAt, aliasesAt, PairWithin, LinkWithin, PairsWithin, LinksWithin}
+use Rattle.iterator.specs.Inner.{Held, StepHeld, collectionOf, stepOf, oneLink, oneDestination, oneAlias, names, ifRoom, linkAdded, withLinkRow, destinationAdded, withDestinationRow, aliasAdded, withAliasRow, bothAdded, withBothRows}
+use Rattle.iterator.proofs.RowsLaws.{length-put-link, pairs-put, links-put, pairs-pair-after, pairs-pair-before, links-pair-after, pairs-link-before, pairs-within-snoc, links-within-snoc, map-snoc}
 
 abbrev collection : List Item → List Pair → List Pair → ℕ → ℕ → Collection
 collection x y z m n = record { links = x; label2dest = y; label2label = z; references = m; targets = n }

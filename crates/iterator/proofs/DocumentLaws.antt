@@ -16,7 +16,7 @@ use Rattle.iterator.specs.declared.collect.MarkupLinkCollection.{MarkupL
 use Rattle.iterator.specs.declared.collect.Step.{Step}
 use Rattle.iterator.specs.declared.collect.Step.the-variants.{Next, Refused}
 use Rattle.iterator.specs.declared.resolve.Resolved.{Resolved}
-use Rattle.iterator.specs.Collect.{Collected, collected, refused, collectAll}
+use Rattle.iterator.specs.Collect.{Collected, collected, collectAll}
 use Rattle.iterator.specs.Resolve.{resolveAliases, resolveReferences, Hyperlink, hyperlinksOf}
 use Rattle.iterator.specs.Records.{recordsOf}
 use Rattle.iterator.specs.Document.{

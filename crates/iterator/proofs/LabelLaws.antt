@@ -1,12 +1,12 @@
 -- A label or a name that is _ is numbered: its number is written behind the bytes that are taken, which stay as they were. Any other
 -- stays where it is.
 -- Assumes nothing.
-use Prim.Native.Nat.{ℕ, _+_, _-_, _*_, _≤_}
+use Prim.Native.Nat.{ℕ, _+_, _-_, _≤_}
 use native.Mathlib.Omega.{arith}
 use mathlib.Core.Path.{_≡_, refl, sym, ap, _∙_}
 use mathlib.Core.List.{List, _++_}
 use mathlib.Core.Bool.{Bool, true, false}
-use lib.ListN.{length, take, drop, length-append}
+use lib.ListN.{length, take, length-append}
 use lib.Seq.{take-at}
 use borrow.Rule.Slice.PartMut.{putMid}
 use Rattle.restructured_text.specs.declared.Span.{Span}
@@ -14,7 +14,6 @@ use Rattle.restructured_text.specs.Strings.{part}
 use Rattle.restructured_text.proofs.PartLaws.{put-here, put-before}
 use Rattle.iterator.specs.declared.counters.Counters.{Counters}
 use Rattle.iterator.specs.declared.collect.MarkupLinkCollection.{MarkupLinkCollection}
-use Rattle.iterator.specs.declared.collect.Labelled.{Labelled}
 use Rattle.iterator.specs.Collect.{isAnonymous, numbered}
 use Rattle.iterator.specs.Rows.{SpanWithin}
 use Rattle.iterator.specs.Inner.{LabelledBy, Counted}

@@ -1,3 +1,4 @@
+-- The laws that the layers above use; specs/Lib.antt lists them. The others serve the proofs here.
 pub mod RowsLaws
 pub mod AreasLaws
 pub mod NamesLaws
@@ -13,6 +14,9 @@ pub mod ReferenceLaws
 pub mod ReadBackLaws
 pub mod CollectingLaws
 pub mod AppendingLaws
+pub mod ReachLaws
+pub mod OnceLaws
+pub mod RemainingLaws
 pub mod OrderLaws
 pub mod DocumentLaws
-pub mod CasesHold
+mod CasesHold

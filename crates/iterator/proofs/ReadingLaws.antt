@@ -1,10 +1,10 @@
 -- Reading goes on behind each link: the scanner is lent the bytes that are not taken, which are enough, so it finds what it finds in the
 -- rest of the document; what is added then is what collecting adds; and where nothing is found, all is collected.
 -- Assumes nothing.
-use Prim.Native.Nat.{ℕ, _+_, _-_, _*_, _<_, _≤_}
+use Prim.Native.Nat.{ℕ, _+_, _-_, _<_, _≤_}
 use native.Mathlib.Omega.{arith}
 use mathlib.Core.Path.{_≡_, refl, sym, ap, subst, _∙_}
-use mathlib.Core.List.{List, [], _∷_, _++_, append-nil}
+use mathlib.Core.List.{List, _++_, append-nil}
 use lib.ListN.{length, take, drop, length-drop, drop-of-length-le}
 use lib.Seq.{drop-at, drop-drop, length-take-le}
 use borrow.Rule.Slice.PartMut.{putMid, postOf}
@@ -14,9 +14,9 @@ use Rattle.parse.specs.declared.Link.{Link}
 use Rattle.parse.specs.declared.Link.the-variants.{Text2Dest, TextLabel2Dest, Text2Label, Label2Dest, Label2Label}
 use Rattle.parse.specs.declared.Scan.{Scan}
 use Rattle.parse.specs.declared.Scan.the-variants.{Found, NotFound, NoRoom}
-use Rattle.parse.specs.Link.{Scanned, found, nothing, no-room, linkOf, scannedOf, LinkEnds, Ends, lent}
+use Rattle.parse.specs.Link.{Scanned, found, nothing, no-room, linkOf, scannedOf, Ends, lent}
 use Rattle.parse.specs.Forms.{rst}
-use Rattle.parse.specs.Scan.{scanWith, scanOf}
+use Rattle.parse.specs.Scan.{scanOf}
 use Rattle.parse.specs.Links.{Placed, linksFrom, linksBy, linksOf}
 use Rattle.parse.proofs.ScanLaws.{rst-consuming, scan-of-within, scan-of-room}
 use Rattle.parse.proofs.LinksLaws.{links-equation}
@@ -24,21 +24,9 @@ use Rattle.parse.proofs.RoundLaws.{lent-enough}
 use Rattle.iterator.specs.declared.collect.MarkupLinkCollection.{MarkupLinkCollection}
 use Rattle.iterator.specs.declared.collect.Step.{Step}
 use Rattle.iterator.specs.declared.collect.Step.the-variants.{Next, Refused}
-use Rattle.iterator.specs.Collect.{Collection, Collected, collected, refused, collectFrom, collectAll, new}
+use Rattle.iterator.specs.Collect.{Collection, Collected, collected, refused, collectFrom, collectAll}
 use Rattle.iterator.specs.Rows.{linkRows, pairRows, destinationsAt, aliasesAt, room, LinksWithin, PairsWithin}
-use Rattle.iterator.specs.Inner.{
-  Held,
-  StepHeld,
-  CollectedHeld,
-  collectionOf,
-  stepOf,
-  Roomy,
-  scannedBytes,
-  Scannable,
-  addScanned,
-  AddsScanned,
-  nothingYet,
-}
+use Rattle.iterator.specs.Inner.{Held, StepHeld, collectionOf, stepOf, Roomy, scannedBytes, Scannable, addScanned, AddsScanned, nothingYet}
 use Rattle.iterator.proofs.RowsLaws.{pairs-kept, items-kept}
 use Rattle.iterator.proofs.CollectLaws.{alike}
 

@@ -253,17 +253,8 @@ pairs-pair-before n a m t x h = pairs-agree n a t (putPair t m x) (λ k g l. pai
 pub links-pair-after : (n a m : ℕ) (t : List ℕ) (x : PairRow) → a + 7 * n ≤ m → linkRows n a (putPair t m x) ≡ linkRows n a t
 links-pair-after n a m t x h = links-agree n a t (putPair t m x) (λ k g l. pair-below t m x k (omega arith))
 
-pub links-pair-before : (n a m : ℕ) (t : List ℕ) (x : PairRow) → m + 4 ≤ a → linkRows n a (putPair t m x) ≡ linkRows n a t
-links-pair-before n a m t x h = links-agree n a t (putPair t m x) (λ k g l. pair-above t m x k (omega arith))
-
-pub pairs-link-after : (n a m : ℕ) (t : List ℕ) (x : LinkRow) → a + 4 * n ≤ m → pairRows n a (putLink t m x) ≡ pairRows n a t
-pairs-link-after n a m t x h = pairs-agree n a t (putLink t m x) (λ k g l. link-below t m x k (omega arith))
-
 pub pairs-link-before : (n a m : ℕ) (t : List ℕ) (x : LinkRow) → m + 7 ≤ a → pairRows n a (putLink t m x) ≡ pairRows n a t
 pairs-link-before n a m t x h = pairs-agree n a t (putLink t m x) (λ k g l. link-above t m x k (omega arith))
-
-pub links-link-after : (n a m : ℕ) (t : List ℕ) (x : LinkRow) → a + 7 * n ≤ m → linkRows n a (putLink t m x) ≡ linkRows n a t
-links-link-after n a m t x h = links-agree n a t (putLink t m x) (λ k g l. link-below t m x k (omega arith))
 
 pub links-link-before : (n a m : ℕ) (t : List ℕ) (x : LinkRow) → m + 7 ≤ a → linkRows n a (putLink t m x) ≡ linkRows n a t
 links-link-before n a m t x h = links-agree n a t (putLink t m x) (λ k g l. link-above t m x k (omega arith))

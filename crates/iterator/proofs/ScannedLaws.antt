@@ -1,10 +1,10 @@
 -- A link that was found, whichever case it is: what its row is, that it can be added, and that adding the row is adding the link.
 -- Assumes nothing.
-use Prim.Native.Nat.{ℕ, _+_, _*_, _<_, _≤_}
+use Prim.Native.Nat.{ℕ, _+_, _≤_}
 use native.Mathlib.Omega.{arith}
 use mathlib.Core.Path.{_≡_, refl, sym, ap, subst, _∙_}
 use mathlib.Core.List.{List}
-use lib.ListN.{length, drop}
+use lib.ListN.{drop}
 use Rattle.restructured_text.specs.declared.Span.{Span}
 use Rattle.parse.specs.declared.Link.{Link}
 use Rattle.parse.specs.declared.Link.the-variants.{Text2Dest, TextLabel2Dest, Text2Label, Label2Dest, Label2Label}
@@ -14,30 +14,9 @@ use Rattle.iterator.specs.declared.rows.PairRow.{PairRow}
 use Rattle.iterator.specs.declared.rows.LinkRow.{LinkRow}
 use Rattle.iterator.specs.declared.collect.MarkupLinkCollection.{MarkupLinkCollection}
 use Rattle.iterator.specs.declared.collect.Step.{Step}
-use Rattle.iterator.specs.Collect.{Collection, Collected, addOf}
-use Rattle.iterator.specs.Rows.{room, LinkWithin, PairWithin}
-use Rattle.iterator.specs.Inner.{
-  Held,
-  StepHeld,
-  collectionOf,
-  stepOf,
-  names,
-  linkAdded,
-  withLinkRow,
-  bothAdded,
-  withBothRows,
-  LinkSmall,
-  PairSmall,
-  RowWithin,
-  Addable,
-  placedOf,
-  Fitting,
-  rowOf,
-  readTo,
-  scannedBytes,
-  Scannable,
-  addScanned,
-}
+use Rattle.iterator.specs.Collect.{addOf}
+use Rattle.iterator.specs.Rows.{LinkWithin}
+use Rattle.iterator.specs.Inner.{Held, StepHeld, collectionOf, stepOf, names, linkAdded, withLinkRow, bothAdded, withBothRows, LinkSmall, RowWithin, Addable, placedOf, Fitting, rowOf, readTo, scannedBytes, Scannable, addScanned}
 use Rattle.iterator.proofs.RowsLaws.{link-small}
 use Rattle.iterator.proofs.CollectLaws.{held-wider, step-by, step-held-by, link-step, link-step-held, both-step, both-step-held}
 use Rattle.iterator.proofs.AddLaws.{read-held, row-within, row-placed}

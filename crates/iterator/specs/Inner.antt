@@ -37,26 +37,7 @@ use Rattle.iterator.specs.Collect.{
 }
 use Rattle.iterator.specs.Records.{wordOf, bytes8, recordsOf}
 use Rattle.iterator.specs.Resolve.{Destination, has, none, search, hit, missed, resolveFrom, resolveReferences, Hyperlink}
-use Rattle.iterator.specs.Rows.{
-  pairRows,
-  linkRows,
-  pairsOf,
-  itemsOf,
-  hyperlinksIn,
-  hyperlinkOf,
-  destinationsAt,
-  aliasesAt,
-  direct,
-  textOf,
-  room,
-  SpanWithin,
-  PairWithin,
-  PairsWithin,
-  LinkWithin,
-  LinksWithin,
-  putLink,
-  putPair,
-}
+use Rattle.iterator.specs.Rows.{pairRows, linkRows, pairsOf, itemsOf, hyperlinksIn, destinationsAt, aliasesAt, direct, textOf, room, SpanWithin, PairsWithin, LinkWithin, LinksWithin, putLink, putPair}
 
 -- rows whose numbers fit into the work numbers
 abbrev pub SpanSmall : Span → Type 0

@@ -14,6 +14,14 @@ abbrev pub ItemsBehind : ℕ → List Item → Type 0
 ItemsBehind p [] = Unit {0}
 ItemsBehind p (x ∷ xs) = (p < x .place) × ItemsBehind p xs
 
+-- The collected links are those of some of the links ps, in their order, each with its place and what it consumed.
+pub data From : List Item → List Placed → Type 0 where
+  ends : From [] []
+  drops : {p : Placed} {xs : List Item} {ps : List Placed} → From xs ps → From xs (p ∷ ps)
+  takes :
+      {x : Item} {p : Placed} {xs : List Item} {ps : List Placed} → x .place ≡ p .place → x .consumed ≡ p .consumed → From xs ps
+      → From (x ∷ xs) (p ∷ ps)
+
 -- zs is xs and then some more
 pub record Begins {A : Type 0} (xs zs : List A) : Type 0 where
   pub rest : List A
@@ -24,7 +32,11 @@ abbrev pub Grown : Collection → Collection → Type 0
 Grown c d =
     Begins (c .links) (d .links) × (Begins (c .label2dest) (d .label2dest) × Begins (c .label2label) (d .label2label))
 
--- so it is, and the links that d has besides start behind place p
+-- so it is, and the links that d has besides are those of some of the links ps
+abbrev pub GrownFrom : List Placed → Collection → Collection → Type 0
+GrownFrom ps c d = (g : Grown c d) × From (g .0 .rest) ps
+
+-- so it is, and they start behind place p
 abbrev pub GrownBehind : ℕ → Collection → Collection → Type 0
 GrownBehind p c d = (g : Grown c d) × ItemsBehind p (g .0 .rest)
 

@@ -7,23 +7,32 @@
 -- Rows and Inner are what the contracts of private functions speak of: how lists stand in the work areas. Cases gathers worked cases,
 -- which proofs/CasesHold.antt computes.
 --
--- Laws, proved in the file of proofs/ that is named, for the layers above:
+-- Laws, proved in the file of proofs/ that is named, for the layers above; ReadBack, Laws, Reach and Remaining define what they
+-- speak of:
 --   in order           OrderLaws collected-in-order: each link starts at or after the end of the one before
 --   sizes              RecordLaws records-size: the records take 8 bytes a link and its strings
 --   reading back       ReadBackLaws links-back: the records of links in order, with fields of 15 bits, read as those links, whatever
---                      follows them (ReadBack says what records read as)
---   the work areas     that those of 4,096 numbers and 49,152 bytes suffice is no law but part of the proofs: no function tests for room
---                      in them, and each asks for it (Inner Held: at most 18,432 bytes are taken, and the scanner is lent the rest)
---   appending          CollectingLaws collect-append: collecting two lists of links is collecting the first and then the second;
---                      AppendingLaws collect-lf, collected-lf: on s ++ 10 ∷ t, for `Tail t` and `Body s`, what is collected is what s gives,
---                      with its numbers, and then what links behind the LF add; collect-grows: links, names and aliases grow at their ends
---                      (Laws defines what these speak of)
+--                      follows them; spare-bits: the four bits behind the fields are zero
+--   the work areas     that those of 4,096 numbers and 49,152 bytes suffice is no law but part of the proofs: no function
+--                      here tests for room in them, and each asks for it (Inner Held: at most 18,432 bytes are taken, and the scanner
+--                      is lent the rest, which is proved to be enough for it, ReadingLaws room-always)
+--   collecting         CollectingLaws collect-append: collecting two lists of links is collecting the first and then the second;
+--                      AppendingLaws collect-grows: what is collected stays, and what links add to it follows, in their order
+--   which names        Reach defines when a name reaches a destination (it has it, or its alias's target reaches it). ReachLaws sound:
+--                      a name that ends with a destination reaches it; complete: a name that reaches one ends with one; left-over:
+--                      the target of an alias that is left over has none. OnceLaws unique: a name reaches one only, where no name is
+--                      defined twice; resolved-grows: then more names and aliases leave what was resolved as it was
+--   appending          on s ++ 10 ∷ t, for `Tail t` and `Body s`: AppendingLaws collect-lf, collected-lf: the document collects what s
+--                      does and then what the links past the LF add; RemainingLaws appended-keeps: where it defines no name twice,
+--                      its links, without those past the LF and the references that s leaves unresolved (Remaining), are those of s
 pub mod Collect
 pub mod Resolve
 pub mod Records
 pub mod Document
 pub mod ReadBack
 pub mod Laws
+pub mod Reach
+pub mod Remaining
 pub mod Rows
 pub mod Inner
 pub mod Cases

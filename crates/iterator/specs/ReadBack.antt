@@ -6,7 +6,7 @@ use lib.ListN.{length, getD, take, drop}
 use Rattle.iterator.specs.Resolve.{Hyperlink}
 use Rattle.iterator.specs.Inner.{Fields}
 
--- the number of the first eight bytes
+-- the number of the first eight bytes: the factors are 2^56, 2^48, .., 2^8
 abbrev pub wordAt : List ℕ → ℕ
 wordAt s =
     getD s 0 0 * 72057594037927936
@@ -18,7 +18,7 @@ wordAt s =
     + getD s 6 0 * 256
     + getD s 7 0
 
--- the fields of a number, most significant bit first
+-- the fields of a number, most significant bit first: it is divided by 2^49, 2^34, 2^19 and 2^4, and a field is below 2^15
 abbrev pub skippedOf : ℕ → ℕ
 skippedOf v = v / 562949953421312
 

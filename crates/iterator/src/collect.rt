@@ -409,6 +409,7 @@ pub fn collect(document: &[u8], render: u32, numbers: &mut [u32], bytes: &mut [u
             Scan::NotFound => {
                 return Step::Next(c);
             }
+            // Never: the bytes that are not taken are more than the document.
             Scan::NoRoom => {
                 return Step::Next(c);
             }

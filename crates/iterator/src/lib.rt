@@ -25,7 +25,7 @@ ghost use Prim.Native.Nat.{_≤_, _<_};
 ghost use lib.ListN.{length};
 ghost use Rattle.parse.specs.Links.{linksOf};
 ghost use Rattle.iterator.specs.Collect.{collectAll};
-ghost use Rattle.iterator.specs.Document.{answerOf, documentOf, verdict, verdictOf, answered, refusal};
+ghost use Rattle.iterator.specs.Document.{answerOf, documentOf, verdict, verdictOf, answered};
 ghost use Rattle.iterator.specs.Inner.{Roomy};
 
 // What a call returns: the number of the refusal or 0; how many links; how many bytes of records or, refused, the place or size that the

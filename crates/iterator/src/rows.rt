@@ -2,7 +2,7 @@
 // stand in the work bytes; the text of a rendered block stands in the document.
 use restructured_text::Span;
 ghost use mathlib.Core.Path.{_≡_};
-ghost use Prim.Native.Nat.{_+_, _≤_, _<_};
+ghost use Prim.Native.Nat.{_+_, _≤_};
 ghost use lib.ListN.{length};
 ghost use Rattle.iterator.specs.Rows.{pairAt, linkAt, putPair, putLink};
 ghost use Rattle.iterator.specs.Inner.{PairSmall, LinkSmall};

@@ -17,6 +17,7 @@
 --   scanning ends      ScanLaws scan-inside *, scan-within *, scan-of-within: with a link of at least one byte within the text, or
 --                      with none; scan-room *, scan-of-room: and never for want of room; LinksLaws links-equation *, links-found *,
 --                      links-none *: the links of a text are its first and those of what is behind it
+--   scratch            RoundLaws lent-enough, lent-short: a scratch as long as the text is enough, and is asked for
 --   sizes              SizeLaws scan-of-sized: the strings of a link are no longer than what it consumed; single-small: the lengths and
 --                      places of the single-link answer are at most that of the longest document
 --   in order and apart LinksLaws links-apart *, links-of-apart: each link starts at or after the end of the one before

@@ -25,6 +25,7 @@
 --                label2target-consumed, label2dest-consumed, label2label-consumed; TransformLaws text-le, destination-le
 --   scratch      no definition says that there is no room: InlineLaws text2dest-room, text-label2dest-room, text2label-room;
 --                BlockLaws block-scratch; TargetLaws label2target-room, label2dest-room, label2label-room
+--   parts        where some bytes of a text are replaced: PartLaws part-length, part-front, put-here, put-before, put-after, put-length
 --   one of two   a block is no alias and destination at once: TargetLaws alias-or-destination, destination-or-alias
 --   none         where no backticked run begins there is no inline form: InlineLaws text2dest-refused, text-label2dest-refused,
 --                text2label-refused; DelimitedLaws backticked-other: another byte than a backtick begins no run

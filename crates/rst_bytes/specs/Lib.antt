@@ -28,6 +28,8 @@
 --                      ends before a stop byte, stop-is: which is one of two, taken-from: it is the same counted from any number;
 --                      LineLaws not-line-ending-end: a line ends before a line ending, space0-starts, space0-free: what spaces and
 --                      tabs at the front begin with and lack; TagLaws starts-append, starts-space
+--   lists and tests    Lists part-from, drop-end, drop-next, drop-two, drop-last: parts of a list; TestLaws by-test, by-test₂, lt-or-le: what
+--                      a test picks
 --   appending          LineLaws body-drop; on s ++ 10 ∷ t: DomainLaws char-lf, outside-lf, run-lf; WordLaws word-lf; EscapedLaws refused-lf,
 --                      taken-lf, open-lf; LineLaws newline-lf, line-ending-lf, not-line-ending-lf, space0-lf, space1-lf; TagLaws starts-lf
 pub mod Tests

@@ -1,2 +1,2 @@
--- `QuoteLaws`: strings in quotes, byte by byte. `HeadLaws`: the fields of a record that the document call wrote.
+-- `QuoteLaws`: strings in quotes, byte by byte.
 mod QuoteLaws

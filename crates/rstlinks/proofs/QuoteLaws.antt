@@ -1,7 +1,7 @@
 -- The laws of specs/Quote.antt, by the code's tests and writes: which bytes stand as they are; what is written before a place, with one
 -- byte more.
 -- Assumes nothing.
-use Prim.Native.Nat.{ℕ, zero, suc, _+_, _-_, _*_, _/_, _%_, _<_, _≤_}
+use Prim.Native.Nat.{ℕ, _+_, _-_, _*_, _/_, _%_, _<_, _≤_}
 use native.Mathlib.Omega.{arith}
 use native.Mathlib.Nat.{min-le-left}
 use native.Mathlib.Numerals.{add-one}
@@ -53,8 +53,12 @@ next l i a h = ap (λ (n : ℕ). take n (set l i a)) (add-one i) ∙ take-suc-se
 
 -- A byte put at a place.
 module _ (l : List ℕ) (at b : ℕ) (h : at + 3 ≤ length l) where
+  -- what is written by whether the byte is plain
+  abbrev written : Bool → List ℕ
+  written t = take at l ++ elim t [ true ↦ b ∷ [] | false ↦ 0x5C ∷ hexDigit (b / 16) ∷ hexDigit (b % 16) ∷ [] ]
+
   pub put-plain : true ≡ isPlain b → take (at + 1) (set l at b) ≡ take at l ++ shownByte b
-  put-plain e = next l at b (omega arith) ∙ ap (λ (t : Bool). take at l ++ elim t [ true ↦ b ∷ [] | false ↦ 0x5C ∷ hexDigit (b / 16) ∷ hexDigit (b % 16) ∷ [] ]) e
+  put-plain e = next l at b (omega arith) ∙ ap written e
 
   -- room for the second and the third of three bytes
   pub second-room : at + 1 < length (set l at 0x5C)
@@ -69,10 +73,11 @@ module _ (l : List ℕ) (at b : ℕ) (h : at + 3 ≤ length l) where
       let l₂ = set l₁ (at + 1) x in
       let e₃ : at + 3 ≡ at + 2 + 1 = omega arith in
       let e₂ : at + 2 ≡ at + 1 + 1 = omega arith in
+      let one = next l at 0x5C (omega arith) in
+      let two = ap (λ (n : ℕ). take n l₂) e₂ ∙ next l₁ (at + 1) x second-room ∙ ap (λ (t : List ℕ). t ++ x ∷ []) one in
       ap (λ (n : ℕ). take n (set l₂ (at + 2) y)) e₃
       ∙ next l₂ (at + 2) y (third-room x)
-      ∙ ap (λ (t : List ℕ). t ++ y ∷ []) (ap (λ (n : ℕ). take n l₂) e₂ ∙ next l₁ (at + 1) x second-room ∙ ap (λ (t : List ℕ). t ++ x ∷ []) (next l at 0x5C (omega arith)))
-      ∙ ap (λ (t : List ℕ). t ++ y ∷ []) (append-assoc (take at l) (0x5C ∷ []) (x ∷ []))
+      ∙ ap (λ (t : List ℕ). t ++ y ∷ []) (two ∙ append-assoc (take at l) (0x5C ∷ []) (x ∷ []))
       ∙ append-assoc (take at l) (0x5C ∷ x ∷ []) (y ∷ [])
 
   pub put-escaped :
@@ -82,12 +87,13 @@ module _ (l : List ℕ) (at b : ℕ) (h : at + 3 ≤ length l) where
       three x y
       ∙ ap (λ (n : ℕ). take at l ++ 0x5C ∷ n ∷ y ∷ []) p
       ∙ ap (λ (n : ℕ). take at l ++ 0x5C ∷ hexDigit (b / 16) ∷ n ∷ []) q
-      ∙ ap (λ (t : Bool). take at l ++ elim t [ true ↦ b ∷ [] | false ↦ 0x5C ∷ hexDigit (b / 16) ∷ hexDigit (b % 16) ∷ [] ]) e
+      ∙ ap written e
 
 shown-snoc : (s : List ℕ) (b : ℕ) → shownBytes (s ++ b ∷ []) ≡ shownBytes s ++ shownByte b
 unfolding shownBytes
 shown-snoc [] b = append-nil (shownByte b)
-shown-snoc (a ∷ s) b = ap (λ (t : List ℕ). shownByte a ++ t) (shown-snoc s b) ∙ sym (append-assoc (shownByte a) (shownBytes s) (shownByte b))
+shown-snoc (a ∷ s) b =
+    ap (λ (t : List ℕ). shownByte a ++ t) (shown-snoc s b) ∙ sym (append-assoc (shownByte a) (shownBytes s) (shownByte b))
 
 -- the line l, which was e, has room for s, and i bytes of s stand in quotes before place at
 pub record Quoting (s e l : List ℕ) (at i : ℕ) : Type 0 where
@@ -148,5 +154,6 @@ quoting-long s e l at i w = length-set l at 0x22 ∙ w .long ∙ length-set e 0 
 -- a string of a record has room in quotes
 pub string-room : (a b : ℕ) (s l : List ℕ) → 98303 ≡ length l → b - a < 32768 → 3 * length (take (b - a) (drop a s)) + 2 ≤ length l
 string-room a b s l e h =
-    let k : length (take (b - a) (drop a s)) ≤ b - a = subst (λ n. n ≤ b - a) (sym (length-take (b - a) (drop a s))) (min-le-left (b - a) (length (drop a s))) in
+    let x = take (b - a) (drop a s) in
+    let k : length x ≤ b - a = subst (λ n. n ≤ b - a) (sym (length-take (b - a) (drop a s))) (min-le-left (b - a) (length (drop a s))) in
     omega arith

@@ -36,6 +36,7 @@ fn links(records: &[u8])
     let mut at = 0;
     let mut end = 0;
     while at < records.len() {
+        // Never of records that the document call wrote.
         if records.len() - at < 8 {
             return;
         }
@@ -43,6 +44,7 @@ fn links(records: &[u8])
         let text = at + 8;
         let dest = text + h.text;
         let next = dest + h.dest;
+        // Nor this.
         if records.len() < next {
             return;
         }

@@ -11,8 +11,8 @@
 //! `parsers`, `single`, `document`, which then has all the time. A piece, a parser
 //! or a call on one kind of inputs is one test; the last line counts them.
 //!
-//! `--sample` makes some thousands of calls of both kinds, whose areas end where
-//! their allocations do, for a tool that watches memory.
+//! `--sample` makes some fifty thousand calls of both kinds, whose areas end
+//! where their allocations do, for a tool that watches memory.
 
 mod document;
 mod documents;

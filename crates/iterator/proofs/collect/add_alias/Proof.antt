@@ -1,3 +1,5 @@
+-- `collect::add_alias` meets its contract: by the test, an alias has room for its row or is refused with 6.
+-- Assumes nothing.
 use Rattle.iterator.specs.Inner.{names, oneAlias}
 use Rattle.iterator.specs.Rows.{putPair, aliasesAt}
 use Rattle.iterator.proofs.CollectLaws.{room-some, room-none}
@@ -7,40 +9,29 @@ use mathlib.Core.Path.{sym, _∙_}
 use borrow.Author.Needs.{needs}
 use Rattle.iterator.proofs.collect.add_alias.Statement.{statement}
 use Rattle.iterator.proofs.collect.add_alias.Tie as tie
-use Rattle.iterator.proofs.collect.add_alias.Reads as reads
-use Rattle.iterator.proofs.collect.add_alias.Lts as lts
-use Rattle.iterator.proofs.rows.put_pair.Reads as put-pair-reads
 
--- src/collect.rt:118:8
 add-if1 : tie.Need-add-if1
 add-if1 c = search needs
 
--- src/collect.rt:120:37
 mul-put-pair : tie.Need-mul-put-pair
 mul-put-pair c = search needs
 
--- src/collect.rt:120:27
 add-put-pair : tie.Need-add-put-pair
 add-put-pair c = search needs
 
--- src/collect.rt:120:9
 put-pair-requires : tie.Need-put-pair-requires
 put-pair-requires c κs = search needs
 
--- src/collect.rt:126:26
 add-t10 : tie.Need-add-t10
 add-t10 c = search needs
 
--- src/collect.rt:121:9
 same-length : tie.Need-same-length
 same-length c = search needs
 
--- src/collect.rt:121:9
 returns : tie.Need-returns
 returns c = let w = c .before .before .before .before .before .before .before .before .before .before .args in
     (sym (room-some (names (w .c)) (Next (oneAlias (w .c))) (Refused 6) (c .before .before .before .before .before .before .before .if1 .taken)), c .before .before .before .put-pair .ensures ∙ sym (room-some (names (w .c)) (putPair (w .numbers .now) (aliasesAt + 4 * w .c .label2label) (w .x)) (w .numbers .now) (c .before .before .before .before .before .before .before .if1 .taken)))
 
--- src/collect.rt:113:1
 returns-2 : tie.Need-returns-2
 returns-2 c = let w = c .before .before .before .args in
     (sym (room-none (names (w .c)) (Next (oneAlias (w .c))) (Refused 6) (c .if1 .left)), sym (room-none (names (w .c)) (putPair (w .numbers .now) (aliasesAt + 4 * w .c .label2label) (w .x)) (w .numbers .now) (c .if1 .left)))

@@ -1,3 +1,5 @@
+-- `collect::add_destination` meets its contract: by the test, a name has room for its row or is refused with 6.
+-- Assumes nothing.
 use Rattle.iterator.specs.Inner.{names, oneDestination}
 use Rattle.iterator.specs.Rows.{putPair, destinationsAt}
 use Rattle.iterator.proofs.CollectLaws.{room-some, room-none}
@@ -7,40 +9,29 @@ use mathlib.Core.Path.{sym, _∙_}
 use borrow.Author.Needs.{needs}
 use Rattle.iterator.proofs.collect.add_destination.Statement.{statement}
 use Rattle.iterator.proofs.collect.add_destination.Tie as tie
-use Rattle.iterator.proofs.collect.add_destination.Reads as reads
-use Rattle.iterator.proofs.collect.add_destination.Lts as lts
-use Rattle.iterator.proofs.rows.put_pair.Reads as put-pair-reads
 
--- src/collect.rt:97:8
 add-if1 : tie.Need-add-if1
 add-if1 c = search needs
 
--- src/collect.rt:99:42
 mul-put-pair : tie.Need-mul-put-pair
 mul-put-pair c = search needs
 
--- src/collect.rt:99:27
 add-put-pair : tie.Need-add-put-pair
 add-put-pair c = search needs
 
--- src/collect.rt:99:9
 put-pair-requires : tie.Need-put-pair-requires
 put-pair-requires c κs = search needs
 
--- src/collect.rt:104:25
 add-t10 : tie.Need-add-t10
 add-t10 c = search needs
 
--- src/collect.rt:100:9
 same-length : tie.Need-same-length
 same-length c = search needs
 
--- src/collect.rt:100:9
 returns : tie.Need-returns
 returns c = let w = c .before .before .before .before .before .before .before .before .before .before .args in
     (sym (room-some (names (w .c)) (Next (oneDestination (w .c))) (Refused 6) (c .before .before .before .before .before .before .before .if1 .taken)), c .before .before .before .put-pair .ensures ∙ sym (room-some (names (w .c)) (putPair (w .numbers .now) (destinationsAt + 4 * w .c .label2dest) (w .x)) (w .numbers .now) (c .before .before .before .before .before .before .before .if1 .taken)))
 
--- src/collect.rt:92:1
 returns-2 : tie.Need-returns-2
 returns-2 c = let w = c .before .before .before .args in
     (sym (room-none (names (w .c)) (Next (oneDestination (w .c))) (Refused 6) (c .if1 .left)), sym (room-none (names (w .c)) (putPair (w .numbers .now) (destinationsAt + 4 * w .c .label2dest) (w .x)) (w .numbers .now) (c .if1 .left)))

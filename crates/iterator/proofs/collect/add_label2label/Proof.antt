@@ -1,34 +1,26 @@
+-- `collect::add_label2label` meets its contract: the block's name is numbered or stays, and its row is added (AddLaws).
+-- Assumes nothing.
 use Rattle.iterator.proofs.AddLaws.{alias-adds, alias-adds-held}
 use Rattle.iterator.proofs.CollectLaws.{step-by, step-held-by}
-use native.Mathlib.Omega.{arith}
 use mathlib.Core.List.{List}
 use Prim.Native.Nat.{ℕ}
 use mathlib.Core.Path.{_∙_}
 use borrow.Author.Needs.{needs}
 use Rattle.iterator.proofs.collect.add_label2label.Statement.{statement}
 use Rattle.iterator.proofs.collect.add_label2label.Tie as tie
-use Rattle.iterator.proofs.collect.add_label2label.Reads as reads
-use Rattle.iterator.proofs.collect.add_label2label.Lts as lts
-use Rattle.iterator.proofs.collect.add_alias.Reads as add-alias-reads
-use Rattle.iterator.proofs.collect.target_name.Reads as target-name-reads
 
--- src/collect.rt:295:9
 target-name-requires : tie.Need-target-name-requires
 target-name-requires c κs = search needs
 
--- src/collect.rt:298:5
 add-alias-requires : tie.Need-add-alias-requires
 add-alias-requires c κs = search needs
 
--- src/collect.rt:283:1
 same-length : tie.Need-same-length
 same-length c = search needs
 
--- src/collect.rt:283:1
 same-length-2 : tie.Need-same-length-2
 same-length-2 c = search needs
 
--- src/collect.rt:283:1
 returns : tie.Need-returns
 returns c = let w = c .before .before .before .before .before .before .before .before .before .before .before .before .before .before .args in let p = c .before .before .before .before .before .before .before .before .target-name in let q = c .before .before .add-alias in let l = c .before .before .before .before .before .before .before .before .before .before .before .before .before .before .pre .0 .0 in let k = c .before .before .before .before .before .before .before .before .before .before .before .before .before .before .pre .1 .0 in let h = c .before .before .before .before .before .before .before .before .before .before .before .before .before .before .pre .1 .1 in
     (λ (s : List ℕ). step-by s (p .last .1 .1 .0) (q .last .1 .1 .0) _ (q .result) _ (q .ensures .1) (q .ensures .0) ∙ alias-adds (w .numbers .now) (w .bytes .now) (p .last .1 .1 .0) (w .c) (w .x) (p .result) l k h (p .ensures .0) (p .ensures .1 .0) (p .ensures .1 .1) s, step-held-by (w .c .at) (q .last .1 .1 .0) _ (q .result) _ (q .ensures .1) (q .ensures .0) (alias-adds-held (w .numbers .now) (w .bytes .now) (p .last .1 .1 .0) (w .c) (w .x) (p .result) l k h (p .ensures .0) (p .ensures .1 .0) (p .ensures .1 .1)))

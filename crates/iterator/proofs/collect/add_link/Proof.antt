@@ -1,38 +1,31 @@
+-- `collect::add_link` meets its contract: by the test, a link has room for its row or is refused with 5.
+-- Assumes nothing.
 use Rattle.iterator.specs.Inner.{oneLink}
 use Rattle.iterator.specs.Rows.{putLink}
 use Rattle.iterator.proofs.CollectLaws.{room-some, room-none}
 use Rattle.iterator.specs.declared.collect.Step.the-variants.{Next, Refused}
-use Prim.Native.Nat.{_+_, _*_}
+use Prim.Native.Nat.{_*_}
 use mathlib.Core.Path.{sym, _∙_}
 use borrow.Author.Needs.{needs}
 use Rattle.iterator.proofs.collect.add_link.Statement.{statement}
 use Rattle.iterator.proofs.collect.add_link.Tie as tie
-use Rattle.iterator.proofs.collect.add_link.Reads as reads
-use Rattle.iterator.proofs.collect.add_link.Lts as lts
-use Rattle.iterator.proofs.rows.put_link.Reads as put-link-reads
 
--- src/collect.rt:78:27
 mul-put-link : tie.Need-mul-put-link
 mul-put-link c = search needs
 
--- src/collect.rt:78:9
 put-link-requires : tie.Need-put-link-requires
 put-link-requires c κs = search needs
 
--- src/collect.rt:82:20
 add-t9 : tie.Need-add-t9
 add-t9 c = search needs
 
--- src/collect.rt:79:9
 same-length : tie.Need-same-length
 same-length c = search needs
 
--- src/collect.rt:79:9
 returns : tie.Need-returns
 returns c = let w = c .before .before .before .before .before .before .before .before .before .before .args in
     (sym (room-some (w .c .links) (Next (oneLink (w .c))) (Refused 5) (c .before .before .before .before .before .before .before .if1 .taken)), c .before .before .before .put-link .ensures ∙ sym (room-some (w .c .links) (putLink (w .numbers .now) (7 * w .c .links) (w .x)) (w .numbers .now) (c .before .before .before .before .before .before .before .if1 .taken)))
 
--- src/collect.rt:71:1
 returns-2 : tie.Need-returns-2
 returns-2 c = let w = c .before .before .before .args in
     (sym (room-none (w .c .links) (Next (oneLink (w .c))) (Refused 5) (c .if1 .left)), sym (room-none (w .c .links) (putLink (w .numbers .now) (7 * w .c .links) (w .x)) (w .numbers .now) (c .if1 .left)))

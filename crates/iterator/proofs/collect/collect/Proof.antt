@@ -1,3 +1,6 @@
+-- `collect::collect` meets its contract: the loop's invariant: what all links give is what those behind `at` add to what is collected. The measure is what is
+-- left of the document; each link found has at least one byte (ReadingLaws).
+-- Assumes nothing.
 use Rattle.iterator.proofs.ReadingLaws.{filled, inside, scannable, next-held, next-goes, refused-goes, none-goes, room-always, end-goes, start-goes, start-held}
 use Rattle.iterator.specs.Inner.{Held, collectionOf}
 use Rattle.iterator.specs.Collect.{collectAll, collectFrom}
@@ -7,16 +10,10 @@ use Rattle.parse.specs.Forms.{rst}
 use borrow.Author.Needs.{needs}
 use lib.ListN.{length, drop}
 use native.Mathlib.Omega.{arith}
-use mathlib.Core.List.{List}
 use mathlib.Core.Path.{_≡_, refl, sym, ap, subst, _∙_}
-use Prim.Native.Nat.{ℕ, _+_, _-_, _≤_}
+use Prim.Native.Nat.{_-_, _≤_}
 use Rattle.iterator.proofs.collect.collect.Statement.{statement}
 use Rattle.iterator.proofs.collect.collect.Tie as tie
-use Rattle.iterator.proofs.collect.collect.Reads as reads
-use Rattle.iterator.proofs.collect.collect.Lts as lts
-use Rattle.iterator.proofs.collect.add.Reads as add-reads
-use Rattle.iterator.proofs.collect.new.Reads as new-reads
-use Rattle.parse.proofs.take_link.Reads as take-link-reads
 
 abbrev Inv-loop : tie.InvT-loop
 Inv-loop document render numbers₀ bytes₀ c₀ numbers bytes c =
@@ -30,123 +27,94 @@ Inv-loop document render numbers₀ bytes₀ c₀ numbers bytes c =
 abbrev μ-loop : tie.MeasureT-loop
 μ-loop document render numbers₀ bytes₀ c₀ numbers bytes c = length document - c .at
 
--- src/collect.rt:396:9
 new-requires : tie.Need-new-requires Inv-loop μ-loop
 new-requires c κs = search needs
 
--- src/collect.rt:397:5
 loop-holds : tie.Need-loop-holds Inv-loop μ-loop
 loop-holds c = let w = c .before .before .before .before .args in
     let e = c .new .ensures in
     let s = w .document .now in
     (refl, refl, subst (Held 0 0 (w .numbers .now)) (sym e) (start-held (w .numbers .now)), omega (arith, ap (λ (z : MarkupLinkCollection). z .at) e), start-goes (w .render) s (w .numbers .now) (w .bytes .now) ∙ ap (λ (z : MarkupLinkCollection). collectFrom (w .render) s (collectionOf s (w .numbers .now) (w .bytes .now) z) (linksFrom rst 0 (z .at) (drop (z .at) s))) (sym e))
 
--- src/collect.rt:400:25
 sub-take-link : tie.Need-sub-take-link Inv-loop μ-loop
 sub-take-link c = omega (arith, c .before .before .loop .inv .3)
 
--- src/collect.rt:400:25
 part-take-link-start : tie.Need-part-take-link-start Inv-loop μ-loop
 part-take-link-start c = omega (arith, c .before .before .loop .inv .3)
 
--- src/collect.rt:400:25
 part-take-link-end : tie.Need-part-take-link-end Inv-loop μ-loop
 part-take-link-end c = omega (arith, c .before .before .loop .inv .3)
 
--- src/collect.rt:400:42
 sub-take-link-2 : tie.Need-sub-take-link-2 Inv-loop μ-loop
 sub-take-link-2 c = let w = c .before .before .before .before .before .before .before .before .args in let l = c .before .before .before .loop in let s = w .document .now in omega (arith, filled s (l .numbers) (l .bytes) (l .c) (l .inv .2) (l .inv .3) (c .before .before .before .before .before .before .before .before .pre .0) (omega (arith, l .inv .0, c .before .before .before .before .before .before .before .before .pre), omega (arith, l .inv .1, c .before .before .before .before .before .before .before .before .pre)), l .inv .1, c .before .before .before .before .before .before .before .before .pre)
 
--- src/collect.rt:400:42
 part-take-link-start-2 : tie.Need-part-take-link-start-2 Inv-loop μ-loop
 part-take-link-start-2 c = let w = c .before .before .before .before .before .before .before .before .args in let l = c .before .before .before .loop in let s = w .document .now in omega (arith, filled s (l .numbers) (l .bytes) (l .c) (l .inv .2) (l .inv .3) (c .before .before .before .before .before .before .before .before .pre .0) (omega (arith, l .inv .0, c .before .before .before .before .before .before .before .before .pre), omega (arith, l .inv .1, c .before .before .before .before .before .before .before .before .pre)), l .inv .1, c .before .before .before .before .before .before .before .before .pre)
 
--- src/collect.rt:400:42
 part-take-link-end-2 : tie.Need-part-take-link-end-2 Inv-loop μ-loop
 part-take-link-end-2 c = let w = c .before .before .before .before .before .before .before .before .args in let l = c .before .before .before .loop in let s = w .document .now in omega (arith, filled s (l .numbers) (l .bytes) (l .c) (l .inv .2) (l .inv .3) (c .before .before .before .before .before .before .before .before .pre .0) (omega (arith, l .inv .0, c .before .before .before .before .before .before .before .before .pre), omega (arith, l .inv .1, c .before .before .before .before .before .before .before .before .pre)), l .inv .1, c .before .before .before .before .before .before .before .before .pre)
 
--- src/collect.rt:400:15
 take-link-requires : tie.Need-take-link-requires Inv-loop μ-loop
 take-link-requires c κs = search needs
 
--- src/collect.rt:401:25
 enum-known-x : tie.Need-enum-known-x Inv-loop μ-loop
 enum-known-x c = search needs
 
--- src/collect.rt:401:37
 add-requires : tie.Need-add-requires Inv-loop μ-loop
 add-requires c κs = let w = c .before .before .before .before .before .before .before .before .before .before .before .before .before .before .before .before .before .args in let l = c .before .before .before .before .before .before .before .before .before .before .before .before .loop in let s = w .document .now in scannable s (l .numbers) (l .bytes) (l .c) (l .inv .2) (l .inv .3) (c .before .before .before .before .before .before .before .before .before .before .before .before .before .before .before .before .before .pre .0) (omega (arith, l .inv .0, c .before .before .before .before .before .before .before .before .before .before .before .before .before .before .before .before .before .pre), omega (arith, l .inv .1, c .before .before .before .before .before .before .before .before .before .before .before .before .before .before .before .before .before .pre)) (c .before .before .before .before .before .before .before .take-link .result) (c .before .before .before .before .before .before .before .take-link .last .1 .0) (c .before .before .before .before .before .before .before .take-link .ensures .0) _ (c .before .before .before .x .given .1) (omega (arith, c .before .before .before .before .before .before .bytes .given)) (c .before .before .before .before .before .before .before .take-link .ensures .1)
 
--- src/collect.rt:402:28
 enum-known-next : tie.Need-enum-known-next Inv-loop μ-loop
 enum-known-next c = search needs
 
--- src/collect.rt:397:5
 loop-less : tie.Need-loop-less Inv-loop μ-loop
 loop-less c = let w = c .before .before .before .before .before .before .before .before .before .before .before .before .before .before .before .before .before .before .before .before .before .before .before .before .before .args in let l = c .before .before .before .before .before .before .before .before .before .before .before .before .before .before .before .before .before .before .before .before .loop in let s = w .document .now in let v = inside s (l .numbers) (l .bytes) (l .c) (l .inv .2) (l .inv .3) (c .before .before .before .before .before .before .before .before .before .before .before .before .before .before .before .before .before .before .before .before .before .before .before .before .before .pre .0) (omega (arith, l .inv .0, c .before .before .before .before .before .before .before .before .before .before .before .before .before .before .before .before .before .before .before .before .before .before .before .before .before .pre), omega (arith, l .inv .1, c .before .before .before .before .before .before .before .before .before .before .before .before .before .before .before .before .before .before .before .before .before .before .before .before .before .pre)) (c .before .before .before .before .before .before .before .before .before .before .before .before .before .before .before .take-link .result) (c .before .before .before .before .before .before .before .before .before .before .before .before .before .before .before .take-link .last .1 .0) (c .before .before .before .before .before .before .before .before .before .before .before .before .before .before .before .take-link .ensures .0) _ (c .before .before .before .before .before .before .before .before .before .before .before .x .given .1) in let u = next-held s (l .numbers) (l .bytes) (l .c) (l .inv .2) (l .inv .3) (c .before .before .before .before .before .before .before .before .before .before .before .before .before .before .before .before .before .before .before .before .before .before .before .before .before .pre .0) (omega (arith, l .inv .0, c .before .before .before .before .before .before .before .before .before .before .before .before .before .before .before .before .before .before .before .before .before .before .before .before .before .pre), omega (arith, l .inv .1, c .before .before .before .before .before .before .before .before .before .before .before .before .before .before .before .before .before .before .before .before .before .before .before .before .before .pre)) (c .before .before .before .before .before .before .before .before .before .before .before .before .before .before .before .take-link .result) (c .before .before .before .before .before .before .before .before .before .before .before .before .before .before .before .take-link .last .1 .0) (c .before .before .before .before .before .before .before .before .before .before .before .before .before .before .before .take-link .ensures .0) _ (c .before .before .before .before .before .before .before .before .before .before .before .x .given .1) (w .render) (c .before .before .before .before .before .before .before .add .last .1 .1 .1 .0) (c .before .before .before .before .before .before .before .add .last .1 .1 .1 .1 .0) (c .before .before .before .before .before .before .before .add .result) (c .before .before .before .before .before .before .before .add .ensures .0) (c .before .before .before .before .before .before .before .add .ensures .1) _ (c .before .next .given .1) in omega (arith, v .0, v .1, u .1)
 
--- src/collect.rt:397:5
 loop-again : tie.Need-loop-again Inv-loop μ-loop
 loop-again c = let w = c .before .before .before .before .before .before .before .before .before .before .before .before .before .before .before .before .before .before .before .before .before .before .before .before .before .args in let l = c .before .before .before .before .before .before .before .before .before .before .before .before .before .before .before .before .before .before .before .before .loop in let s = w .document .now in let v = inside s (l .numbers) (l .bytes) (l .c) (l .inv .2) (l .inv .3) (c .before .before .before .before .before .before .before .before .before .before .before .before .before .before .before .before .before .before .before .before .before .before .before .before .before .pre .0) (omega (arith, l .inv .0, c .before .before .before .before .before .before .before .before .before .before .before .before .before .before .before .before .before .before .before .before .before .before .before .before .before .pre), omega (arith, l .inv .1, c .before .before .before .before .before .before .before .before .before .before .before .before .before .before .before .before .before .before .before .before .before .before .before .before .before .pre)) (c .before .before .before .before .before .before .before .before .before .before .before .before .before .before .before .take-link .result) (c .before .before .before .before .before .before .before .before .before .before .before .before .before .before .before .take-link .last .1 .0) (c .before .before .before .before .before .before .before .before .before .before .before .before .before .before .before .take-link .ensures .0) _ (c .before .before .before .before .before .before .before .before .before .before .before .x .given .1) in let u = next-held s (l .numbers) (l .bytes) (l .c) (l .inv .2) (l .inv .3) (c .before .before .before .before .before .before .before .before .before .before .before .before .before .before .before .before .before .before .before .before .before .before .before .before .before .pre .0) (omega (arith, l .inv .0, c .before .before .before .before .before .before .before .before .before .before .before .before .before .before .before .before .before .before .before .before .before .before .before .before .before .pre), omega (arith, l .inv .1, c .before .before .before .before .before .before .before .before .before .before .before .before .before .before .before .before .before .before .before .before .before .before .before .before .before .pre)) (c .before .before .before .before .before .before .before .before .before .before .before .before .before .before .before .take-link .result) (c .before .before .before .before .before .before .before .before .before .before .before .before .before .before .before .take-link .last .1 .0) (c .before .before .before .before .before .before .before .before .before .before .before .before .before .before .before .take-link .ensures .0) _ (c .before .before .before .before .before .before .before .before .before .before .before .x .given .1) (w .render) (c .before .before .before .before .before .before .before .add .last .1 .1 .1 .0) (c .before .before .before .before .before .before .before .add .last .1 .1 .1 .1 .0) (c .before .before .before .before .before .before .before .add .result) (c .before .before .before .before .before .before .before .add .ensures .0) (c .before .before .before .before .before .before .before .add .ensures .1) _ (c .before .next .given .1) in
     (omega (arith, l .inv .0, c .before .before .before .before .before .before .numbers .given), omega (arith, l .inv .1, c .before .before .before .before .bytes2 .given, c .before .before .before .before .before .before .before .before .before .before .before .before .before .before .bytes .given), u .0, omega (arith, v .1, u .1), l .inv .4 ∙ next-goes s (l .numbers) (l .bytes) (l .c) (l .inv .2) (l .inv .3) (c .before .before .before .before .before .before .before .before .before .before .before .before .before .before .before .before .before .before .before .before .before .before .before .before .before .pre .0) (omega (arith, l .inv .0, c .before .before .before .before .before .before .before .before .before .before .before .before .before .before .before .before .before .before .before .before .before .before .before .before .before .pre), omega (arith, l .inv .1, c .before .before .before .before .before .before .before .before .before .before .before .before .before .before .before .before .before .before .before .before .before .before .before .before .before .pre)) (c .before .before .before .before .before .before .before .before .before .before .before .before .before .before .before .take-link .result) (c .before .before .before .before .before .before .before .before .before .before .before .before .before .before .before .take-link .last .1 .0) (c .before .before .before .before .before .before .before .before .before .before .before .before .before .before .before .take-link .ensures .0) _ (c .before .before .before .before .before .before .before .before .before .before .before .x .given .1) (w .render) (c .before .before .before .before .before .before .before .add .last .1 .1 .1 .0) (c .before .before .before .before .before .before .before .add .last .1 .1 .1 .1 .0) (c .before .before .before .before .before .before .before .add .result) (c .before .before .before .before .before .before .before .add .ensures .0) (c .before .before .before .before .before .before .before .add .ensures .1) _ (c .before .next .given .1))
 
--- src/collect.rt:405:31
 enum-known-number : tie.Need-enum-known-number Inv-loop μ-loop
 enum-known-number c = search needs
 
--- src/collect.rt:406:21
 same-length : tie.Need-same-length Inv-loop μ-loop
 same-length c = search needs
 
--- src/collect.rt:406:21
 same-length-2 : tie.Need-same-length-2 Inv-loop μ-loop
 same-length-2 c = search needs
 
--- src/collect.rt:406:21
 returns : tie.Need-returns Inv-loop μ-loop
 returns c = let w = c .before .before .before .before .before .before .before .before .before .before .before .before .before .before .before .before .before .before .before .before .before .before .before .before .before .args in let l = c .before .before .before .before .before .before .before .before .before .before .before .before .before .before .before .before .before .before .before .before .loop in let s = w .document .now in (refused-goes s (l .numbers) (l .bytes) (l .c) (l .inv .2) (l .inv .3) (c .before .before .before .before .before .before .before .before .before .before .before .before .before .before .before .before .before .before .before .before .before .before .before .before .before .pre .0) (omega (arith, l .inv .0, c .before .before .before .before .before .before .before .before .before .before .before .before .before .before .before .before .before .before .before .before .before .before .before .before .before .pre), omega (arith, l .inv .1, c .before .before .before .before .before .before .before .before .before .before .before .before .before .before .before .before .before .before .before .before .before .before .before .before .before .pre)) (c .before .before .before .before .before .before .before .before .before .before .before .before .before .before .before .take-link .result) (c .before .before .before .before .before .before .before .before .before .before .before .before .before .before .before .take-link .last .1 .0) (c .before .before .before .before .before .before .before .before .before .before .before .before .before .before .before .take-link .ensures .0) _ (c .before .before .before .before .before .before .before .before .before .before .before .x .given .1) (w .render) (c .before .before .before .before .before .before .before .add .last .1 .1 .1 .0) (c .before .before .before .before .before .before .before .add .last .1 .1 .1 .1 .0) (c .before .before .before .before .before .before .before .add .result) (c .before .before .before .before .before .before .before .add .ensures .0) (c .before .before .before .before .before .before .before .add .ensures .1) _ (c .before .number .given .1) ∙ sym (l .inv .4), tt)
 
--- src/collect.rt:410:17
 enum-told : tie.Need-enum-told Inv-loop μ-loop
 enum-told c = search needs
 
--- src/collect.rt:410:17
 same-length-3 : tie.Need-same-length-3 Inv-loop μ-loop
 same-length-3 c = search needs
 
--- src/collect.rt:410:17
 same-length-4 : tie.Need-same-length-4 Inv-loop μ-loop
 same-length-4 c = search needs
 
--- src/collect.rt:410:17
 returns-2 : tie.Need-returns-2 Inv-loop μ-loop
 returns-2 c = let w = c .before .before .before .before .before .before .before .before .before .before .before .before .before .before .args in let l = c .before .before .before .before .before .before .before .before .before .loop in let s = w .document .now in (none-goes s (l .numbers) (l .bytes) (l .c) (l .inv .2) (l .inv .3) (c .before .before .before .before .before .before .before .before .before .before .before .before .before .before .pre .0) (omega (arith, l .inv .0, c .before .before .before .before .before .before .before .before .before .before .before .before .before .before .pre), omega (arith, l .inv .1, c .before .before .before .before .before .before .before .before .before .before .before .before .before .before .pre)) (c .before .before .before .before .take-link .result) (c .before .before .before .before .take-link .last .1 .0) (c .before .before .before .before .take-link .ensures .0) (w .render) (c .enum-told .given .1) ∙ sym (l .inv .4), (l .inv .2, l .inv .3))
 
--- src/collect.rt:413:17
 enum-told-2 : tie.Need-enum-told-2 Inv-loop μ-loop
 enum-told-2 c = search needs
 
--- src/collect.rt:413:17
 same-length-5 : tie.Need-same-length-5 Inv-loop μ-loop
 same-length-5 c = search needs
 
--- src/collect.rt:413:17
 same-length-6 : tie.Need-same-length-6 Inv-loop μ-loop
 same-length-6 c = search needs
 
--- src/collect.rt:413:17
 returns-3 : tie.Need-returns-3 Inv-loop μ-loop
 returns-3 c = let w = c .before .before .before .before .before .before .before .before .before .before .before .before .before .before .args in let l = c .before .before .before .before .before .before .before .before .before .loop in let s = w .document .now in absurd (room-always s (l .numbers) (l .bytes) (l .c) (l .inv .2) (l .inv .3) (c .before .before .before .before .before .before .before .before .before .before .before .before .before .before .pre .0) (omega (arith, l .inv .0, c .before .before .before .before .before .before .before .before .before .before .before .before .before .before .pre), omega (arith, l .inv .1, c .before .before .before .before .before .before .before .before .before .before .before .before .before .before .pre)) (c .before .before .before .before .take-link .result) (c .before .before .before .before .take-link .last .1 .0) (c .before .before .before .before .take-link .ensures .0) (c .enum-told2 .given .1))
 
--- src/collect.rt:391:1
 same-length-7 : tie.Need-same-length-7 Inv-loop μ-loop
 same-length-7 c = search needs
 
--- src/collect.rt:391:1
 same-length-8 : tie.Need-same-length-8 Inv-loop μ-loop
 same-length-8 c = search needs
 
--- src/collect.rt:391:1
 returns-4 : tie.Need-returns-4 Inv-loop μ-loop
 returns-4 c = let w = c .before .before .before .before .before .before .before .args in let l = c .before .before .loop in let s = w .document .now in (end-goes (w .render) s (l .numbers) (l .bytes) (l .c) (omega arith) ∙ sym (l .inv .4), (l .inv .2, l .inv .3))
 

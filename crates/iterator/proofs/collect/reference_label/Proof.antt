@@ -1,3 +1,5 @@
+-- `collect::reference_label` meets its contract: a label that is _ is the number that was written behind the taken bytes; any other stays (LabelLaws).
+-- Assumes nothing.
 use lib.ListN.{take}
 use mathlib.Core.List.{_++_}
 use Prim.Native.Nat.{ℕ}
@@ -13,46 +15,32 @@ use mathlib.Core.Path.{_∙_, refl, sym, ap}
 use borrow.Author.Needs.{needs}
 use Rattle.iterator.proofs.collect.reference_label.Statement.{statement}
 use Rattle.iterator.proofs.collect.reference_label.Tie as tie
-use Rattle.iterator.proofs.collect.reference_label.Reads as reads
-use Rattle.iterator.proofs.collect.reference_label.Lts as lts
-use Rattle.iterator.proofs.counters.Counters.next_reference.Reads as next-reference-reads
-use Rattle.iterator.proofs.names.is_anonymous.Reads as is-anonymous-reads
-use Rattle.iterator.proofs.names.write_numbered.Reads as write-numbered-reads
 
--- src/collect.rt:146:8
 is-anonymous-requires : tie.Need-is-anonymous-requires
 is-anonymous-requires c κs = search needs
 
--- src/collect.rt:149:13
 next-reference-requires : tie.Need-next-reference-requires
 next-reference-requires c κs = search needs
 
--- src/collect.rt:151:42
 sub-write-numbered : tie.Need-sub-write-numbered
 sub-write-numbered c = search needs
 
--- src/collect.rt:151:42
 part-write-numbered-start : tie.Need-part-write-numbered-start
 part-write-numbered-start c = search needs
 
--- src/collect.rt:151:42
 part-write-numbered-end : tie.Need-part-write-numbered-end
 part-write-numbered-end c = search needs
 
--- src/collect.rt:151:13
 write-numbered-requires : tie.Need-write-numbered-requires
 write-numbered-requires c κs = let w = c .before .before .before .before .before .before .before .before .args in
     (omega (arith, ap (λ (z : Numbered). z .number) (c .before .before .next-reference .ensures), c .before .before .before .before .before .before .before .before .pre), omega (arith, c .before .before .before .before .before .before .before .before .pre, length-drop (w .c .fill) (w .bytes .now), length-take-le (length (w .bytes .now) - w .c .fill) (drop (w .c .fill) (w .bytes .now)) (omega (arith, length-drop (w .c .fill) (w .bytes .now)))))
 
--- src/collect.rt:159:23
 add-t13 : tie.Need-add-t13
 add-t13 c = omega (arith, c .before .before .before .before .before .before .before .before .before .before .before .pre, c .before .before .write-numbered .ensures .1, numbered-length (c .before .before .before .before .before .next-reference .result .number))
 
--- src/collect.rt:152:9
 same-length : tie.Need-same-length
 same-length c = search needs
 
--- src/collect.rt:152:9
 returns : tie.Need-returns
 returns c = let w = c .before .before .before .before .before .before .before .before .before .before .before .args in
     let p = c .before .before .before .before .before .next-reference in
@@ -62,11 +50,9 @@ returns c = let w = c .before .before .before .before .before .before .before .b
     let f = q .ensures .1 ∙ ap (λ (z : ℕ). length (numbered z)) e in
     (numbered-label (w .a) (w .c .counters .references + 1) (w .c) (w .bytes .now) a (q .last .1 .0) _ (q .result) (p .result .counters) f (q .ensures .0 ∙ ap (λ (z : ℕ). numbered z ++ drop (length (numbered z)) (take (length (w .bytes .now) - w .c .fill) (drop (w .c .fill) (w .bytes .now)))) e) (omega (arith, c .before .before .before .before .before .before .before .before .before .before .before .pre)), (numbered-counted (w .a) (w .c .counters .references + 1) (w .c) (w .bytes .now) a (w .c .counters .references) (p .result .counters .references) (q .result) (ap (λ (z : Numbered). z .counters .references) (p .ensures)) f, ap (λ (z : Numbered). z .counters .targets) (p .ensures)))
 
--- src/collect.rt:140:1
 same-length-2 : tie.Need-same-length-2
 same-length-2 c = search needs
 
--- src/collect.rt:140:1
 returns-2 : tie.Need-returns-2
 returns-2 c = let w = c .before .before .before .before .args in
     (same-label (w .a) (w .c .counters .references + 1) (w .c) (w .bytes .now) (sym (c .before .is-anonymous .ensures) ∙ c .if1 .left) (c .before .before .before .before .pre .1 .1), (same-counted (w .a) (w .c .counters .references + 1) (w .c) (w .bytes .now) (sym (c .before .is-anonymous .ensures) ∙ c .if1 .left) (w .c .counters .references), refl))

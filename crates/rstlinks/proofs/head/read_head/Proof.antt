@@ -1,3 +1,5 @@
+-- `head::read_head` meets its contract: the fields of the number of eight bytes, which has 64 bits.
+-- Assumes nothing.
 use borrow.Author.Needs.{needs}
 use mathlib.Core.Path.{ap}
 use native.Mathlib.Omega.{arith}

@@ -1,3 +1,5 @@
+-- `quote::hex_digit` meets its contract, by its test.
+-- Assumes nothing.
 use borrow.Author.Needs.{needs}
 use Rattle.rstlinks.proofs.QuoteLaws.{digit-low, digit-high}
 use Rattle.rstlinks.proofs.quote.hex_digit.Statement.{statement}

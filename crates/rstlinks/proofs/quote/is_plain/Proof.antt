@@ -1,3 +1,5 @@
+-- `quote::is_plain` meets its contract, test by test.
+-- Assumes nothing.
 use Rattle.rstlinks.proofs.QuoteLaws.{plain-below, plain-above, plain-mark, plain-backslash, plain-other}
 use Rattle.rstlinks.proofs.quote.is_plain.Statement.{statement}
 use Rattle.rstlinks.proofs.quote.is_plain.Tie as tie

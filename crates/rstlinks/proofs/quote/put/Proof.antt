@@ -1,3 +1,5 @@
+-- `quote::put` meets its contract: one byte or three are written, and what stands before them is as it was.
+-- Assumes nothing.
 use borrow.Author.Needs.{needs}
 use mathlib.Core.Path.{sym, _∙_}
 use native.Mathlib.Omega.{arith}

@@ -1,3 +1,5 @@
+-- `quote::quote` meets its contract. The loop's invariant is `Quoting`: the bytes read so far stand in quotes before the place.
+-- Assumes nothing.
 use Prim.Native.Nat.{_-_}
 use native.Mathlib.Omega.{arith}
 use lib.ListN.{length}

@@ -1,3 +1,6 @@
+-- `show::links` is safe: a record that does not end within the records is not read, so places stay below 2 to the power of 32, and the
+-- line has room for every string.
+-- Assumes nothing.
 use Prim.Native.Nat.{_+_, _-_, _*_, _≤_}
 use mathlib.Core.Path.{_≡_, sym}
 use native.Mathlib.Omega.{arith}
@@ -71,7 +74,14 @@ slice-aggregate-link : tie.Need-slice-aggregate-link Inv-loop μ-loop
 slice-aggregate-link c = search needs
 
 link-requires : tie.Need-link-requires Inv-loop μ-loop
-link-requires c κs = let l = c .before .before .before .before .before .before .before .before .before .before .before .loop in let h = c .before .before .before .before .before .before .before .read-head in (string-room (l .at + 8) (l .at + 8 + h .result .text) _ (l .line) (l .inv .0) (omega (arith, h .ensures .1)), string-room (l .at + 8 + h .result .text) (l .at + 8 + h .result .text + h .result .dest) _ (l .line) (l .inv .0) (omega (arith, h .ensures .1)))
+link-requires c κs =
+    let l = c .before .before .before .before .before .before .before .before .before .before .before .loop in
+    let h = c .before .before .before .before .before .before .before .read-head in
+    let text = l .at + 8 in
+    let dest = text + h .result .text in (
+      string-room text dest _ (l .line) (l .inv .0) (omega (arith, h .ensures .1)),
+      string-room dest (dest + h .result .dest) _ (l .line) (l .inv .0) (omega (arith, h .ensures .1)),
+    )
 
 add-end : tie.Need-add-end Inv-loop μ-loop
 add-end c = omega arith

@@ -1,3 +1,5 @@
+-- `show::outcome` is safe: as many bytes are read as the output has at the most.
+-- Assumes nothing.
 use borrow.Author.Needs.{needs}
 use mathlib.Core.Path.{sym}
 use native.Mathlib.Omega.{arith}
@@ -15,10 +17,13 @@ cast-n : tie.Need-cast-n
 cast-n c = search needs
 
 slice-aggregate-links : tie.Need-slice-aggregate-links
-slice-aggregate-links c = sym (length-take-le _ (c .before .before .before .before .before .before .before .before .args .output .now) (omega arith))
+slice-aggregate-links c =
+    sym (length-take-le _ (c .before .before .before .before .before .before .before .before .args .output .now) (omega arith))
 
 links-requires : tie.Need-links-requires
-links-requires c κs = omega (arith, length-take-le (c .before .before .before .before .before .before .before .before .args .r .bytes) (c .before .before .before .before .before .before .before .before .args .output .now) (omega arith))
+links-requires c κs =
+    let w = c .before .before .before .before .before .before .before .before .args in
+    omega (arith, length-take-le (w .r .bytes) (w .output .now) (omega arith))
 
 slice-aggregate-first-line-2 : tie.Need-slice-aggregate-first-line-2
 slice-aggregate-first-line-2 c = search needs
