@@ -64,15 +64,14 @@ use Rattle.iterator.proofs.CollectingLaws.{collect-append}
 
 -- Links that end within s
 
--- the bytes that a link consumed are the same with more behind s
-consumed-append :
-    (s u : List ℕ) (p : Placed) → p .place + p .consumed ≤ length s → consumedBytes (s ++ u) p ≡ consumedBytes s p
-consumed-append s u p h =
-    let f : p .place ≤ length s = omega arith in
-    let g : p .consumed ≤ length (drop (p .place) s) = omega (arith, length-drop (p .place) s) in
-    ap (take (p .consumed)) (drop-append-le (p .place) s u f) ∙ take-append-le (p .consumed) (drop (p .place) s) u g
+-- the n bytes from place i on are the same with more behind s
+pub part-append : (s u : List ℕ) (i n : ℕ) → i + n ≤ length s → take n (drop i (s ++ u)) ≡ take n (drop i s)
+part-append s u i n h =
+    let f : i ≤ length s = omega arith in
+    let g : n ≤ length (drop i s) = omega (arith, length-drop i s) in
+    ap (take n) (drop-append-le i s u f) ∙ take-append-le n (drop i s) u g
 
--- so is what is collected of it
+-- so is what is collected of a link
 add-append :
     (k : Kind) (render : ℕ) (s u : List ℕ) (p : Placed) (c : Collection) → p .place + p .consumed ≤ length s
     → addOf k render (s ++ u) p c ≡ addOf k render s p c
@@ -87,7 +86,7 @@ add-append label2dest render s u p c h =
       | true ↦ andThen (addLink (item p x (destination (p .second))) d) (addDestination y)
       | false ↦ addDestination y d
     ])
-    (consumed-append s u p h)
+    (part-append s u (p .place) (p .consumed) h)
 add-append label2label render s u p c h = refl
 
 -- links that are apart and end by place m

@@ -16,7 +16,7 @@ pub mod CollectingLaws
 pub mod AppendingLaws
 pub mod ReachLaws
 pub mod OnceLaws
-pub mod RemainingLaws
 pub mod OrderLaws
 pub mod DocumentLaws
+pub mod AcceptedLaws
 mod CasesHold

@@ -1,14 +1,14 @@
 -- The laws of specs/ReadBack.antt: what was written reads back as the four fields, and as the links of all records.
 -- Assumes nothing.
-use Prim.Native.Nat.{ℕ, suc, _+_, _-_, _%_, _≤_}
+use Prim.Native.Nat.{ℕ, zero, suc, _+_, _-_, _%_, _<_, _≤_}
 use mathlib.Core.Path.{_≡_, refl, sym, ap, _∙_}
 use mathlib.Core.List.{List, [], _∷_, _++_, append-assoc}
 use native.Mathlib.Omega.{arith}
 use native.Mathlib.Nat.{div-div-eq-div-mul}
-use lib.ListN.{length, take, drop}
+use lib.ListN.{length, take, drop, length-append}
 use lib.Seq.{take-at, drop-at, drop-drop}
 use Rattle.iterator.specs.Resolve.{Hyperlink}
-use Rattle.iterator.specs.Records.{wordOf, bytes8, recordOf, recordsFrom}
+use Rattle.iterator.specs.Records.{wordOf, bytes8, recordOf, recordsFrom, recordsOf}
 use Rattle.iterator.specs.Inner.{Fields}
 use Rattle.iterator.specs.ReadBack.{
   wordAt,
@@ -19,8 +19,10 @@ use Rattle.iterator.specs.ReadBack.{
   linkAtFront,
   afterFront,
   linksRead,
-  Packable,
+  linksIn,
 }
+use Rattle.iterator.specs.Laws.{Standing}
+use Rattle.iterator.proofs.RecordLaws.{record-length}
 
 -- the number of eight bytes is the one that was written
 pub word-back : (v : ℕ) (rest : List ℕ) → wordAt (bytes8 v ++ rest) ≡ v
@@ -92,18 +94,37 @@ module _ (n : ℕ) (x : Hyperlink) (rest : List ℕ) (order : n ≤ x .place)
       ∙ ap (drop (destLenOf (wordAt (recordOf n x ++ rest)))) (dest-front _ text-len)
       ∙ drop-at (x .dest) rest _ (sym dest-len)
 
--- the records of links read as those links, whatever follows them
-pub links-back :
-    (n : ℕ) (links : List Hyperlink) (rest : List ℕ) → Packable n links
-    → linksRead (length links) n (recordsFrom n links ++ rest) ≡ links
-unfolding linksRead recordsFrom Packable
-links-back n [] rest h = refl
-links-back n (x ∷ links) rest h =
-    let more = recordsFrom (x .place + x .consumed) links ++ rest in
-    let a : (recordOf n x ++ recordsFrom (x .place + x .consumed) links) ++ rest
-    ≡ recordOf n x ++ more = append-assoc (recordOf n x) _ rest in
-    ap (linksRead (suc (length links)) n) a
-    ∙ (λ j. link-back n x more (h .0) (h .1 .0) j
-    ∷ linksRead (length links) (link-back n x more (h .0) (h .1 .0) j .place + link-back n x more (h .0) (h .1 .0) j .consumed)
-    (after-back n x more (h .0) (h .1 .0) j))
-    ∙ ap (λ (l : List Hyperlink). x ∷ l) (links-back (x .place + x .consumed) links rest (h .1 .1))
+-- there are at least as many bytes as links
+records-many : (links : List Hyperlink) (n : ℕ) → length links ≤ length (recordsFrom n links)
+unfolding recordsFrom
+records-many [] n = omega arith
+records-many (x ∷ links) n =
+    let e = length-append (recordOf n x) (recordsFrom (x .place + x .consumed) links) in
+    omega (arith, e, record-length n x, records-many links (x .place + x .consumed))
+
+pub standing-end : (links : List Hyperlink) (n m : ℕ) → Standing n m links → n ≤ m
+unfolding Standing
+standing-end [] n m w = w
+standing-end (x ∷ links) n m w = omega (arith, w .0, standing-end links (x .place + x .consumed) m (w .3))
+
+-- the records of links read as those links, where the places and lengths have 15 bits
+links-back :
+    (links : List Hyperlink) (k n m : ℕ) → m < 32768 → length links ≤ k → Standing n m links
+    → linksRead k n (recordsFrom n links) ≡ links
+unfolding linksRead recordsFrom Standing
+links-back [] zero n m h l w = refl
+links-back [] (suc k) n m h l w = refl
+links-back (x ∷ links) zero n m h l w = absurd (omega arith)
+links-back (x ∷ links) (suc k) n m h l w =
+    let more = recordsFrom (x .place + x .consumed) links in
+    let e = standing-end links (x .place + x .consumed) m (w .3) in
+    let f : Fields (x .place - n) (x .consumed) (length (x .text)) (length (x .dest)) = (
+      omega (arith, w .0, e),
+      (omega (arith, w .0, e), (omega (arith, w .1), omega (arith, w .2))),
+    ) in
+    (λ j. link-back n x more (w .0) f j
+    ∷ linksRead k (link-back n x more (w .0) f j .place + link-back n x more (w .0) f j .consumed) (after-back n x more (w .0) f j))
+    ∙ ap (λ (l : List Hyperlink). x ∷ l) (links-back links k (x .place + x .consumed) m h (omega arith) (w .3))
+
+pub links-held : (links : List Hyperlink) (m : ℕ) → m < 32768 → Standing 0 m links → linksIn (recordsOf links) ≡ links
+links-held links m h w = links-back links (length (recordsOf links)) 0 m h (records-many links 0) w

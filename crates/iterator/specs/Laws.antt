@@ -1,13 +1,42 @@
--- What the laws of collecting speak of: what is collected grows at its ends only, and what LF and a tail behind a document add starts
--- behind that LF.
+-- What the laws speak of: the links of a document stand in order and apart; what is collected grows at its ends only, and what LF and a
+-- tail behind a document add starts behind that LF.
 -- Assumes nothing.
-use Prim.Native.Nat.{ℕ, _<_}
+use Prim.Native.Nat.{ℕ, _+_, _<_, _≤_}
 use mathlib.Core.Path.{_≡_}
 use mathlib.Core.List.{List, [], _∷_, _++_}
-use lib.ListN.{length}
+use lib.ListN.{length, take}
 use Rattle.parse.specs.Links.{Placed, linksOf}
 use Rattle.parse.specs.Laws.{AllBehind}
-use Rattle.iterator.specs.Collect.{Item, Collection, andThen, collectFrom, collectAll}
+use Rattle.iterator.specs.Collect.{Goal, destination, label, Item, Collection, collected, andThen, collectFrom, collectAll}
+use Rattle.iterator.specs.Resolve.{Hyperlink, hyperlinksOf}
+use Rattle.iterator.specs.Records.{recordsOf}
+use Rattle.iterator.specs.Document.{Verdict}
+
+-- a collected link of at least one byte, whose strings are no longer than what it consumed
+abbrev pub GoalMeasured : ℕ → Goal → Type 0
+GoalMeasured n (destination d) = length d ≤ n
+GoalMeasured n (label name) = Unit {0}
+
+abbrev pub Measured : Item → Type 0
+Measured x = (0 < x .consumed) × (length (x .text) ≤ x .consumed) × GoalMeasured (x .consumed) (x .goal)
+
+-- such links in order and apart, as `Apart` says it of what is scanned: the first starts at or after place n, and all end by place m
+abbrev pub ItemsApart : ℕ → ℕ → List Item → Type 0
+ItemsApart n m [] = n ≤ m
+ItemsApart n m (x ∷ xs) = (n ≤ x .place) × (Measured x) × ItemsApart (x .place + x .consumed) m xs
+
+-- links in order and apart, whose strings are no longer than m: the first starts at or after place n, and all end by place m
+unfoldable pub Standing : ℕ → ℕ → List Hyperlink → Type 0
+Standing n m [] = n ≤ m
+Standing n m (x ∷ rest) =
+    (n ≤ x .place) × (length (x .text) ≤ m) × (length (x .dest) ≤ m) × Standing (x .place + x .consumed) m rest
+
+-- document s is accepted with verdict v: it is collected, and the records of its links are the first bytes of the output
+pub record Accepted (render : ℕ) (s : List ℕ) (v : Verdict) : Type 0 where
+  pub short : length s ≤ 16384
+  pub collection : Collection
+  pub collects : collectAll render s (linksOf s) ≡ collected collection
+  pub records : take (v .bytes) (v .output) ≡ recordsOf (hyperlinksOf collection)
 
 -- every collected link starts behind place p
 abbrev pub ItemsBehind : ℕ → List Item → Type 0

@@ -7,12 +7,14 @@
 -- Rows and Inner are what the contracts of private functions speak of: how lists stand in the work areas. Cases gathers worked cases,
 -- which proofs/CasesHold.antt computes.
 --
--- Laws, proved in the file of proofs/ that is named, for the layers above; ReadBack, Laws, Reach and Remaining define what they
--- speak of:
---   in order           OrderLaws collected-in-order: each link starts at or after the end of the one before
+-- Laws, proved in the file of proofs/ that is named, for the layers above; ReadBack, Laws and Reach define what they speak of:
+--   in order           OrderLaws collected-apart, collected-standing: each link starts at or after the end of the one before, all end
+--                      within the document, and no string is longer than it; collected-in-order: the same of the order alone
 --   sizes              RecordLaws records-size: the records take 8 bytes a link and its strings
---   reading back       ReadBackLaws links-back: the records of links in order, with fields of 15 bits, read as those links, whatever
---                      follows them; spare-bits: the four bits behind the fields are zero
+--   reading back       ReadBackLaws links-held: the records of links in order, with fields of 15 bits, hold those links; spare-bits:
+--                      the four bits behind the fields are zero
+--   accepted           AcceptedLaws accepted: an accepted document is collected, and its output begins with the records of its links;
+--                      accepted-held: those records hold these links
 --   the work areas     that those of 4,096 numbers and 49,152 bytes suffice is no law but part of the proofs: no function
 --                      here tests for room in them, and each asks for it (Inner Held: at most 18,432 bytes are taken, and the scanner
 --                      is lent the rest, which is proved to be enough for it, ReadingLaws room-always)
@@ -23,8 +25,7 @@
 --                      the target of an alias that is left over has none. OnceLaws unique: a name reaches one only, where no name is
 --                      defined twice; resolved-grows: then more names and aliases leave what was resolved as it was
 --   appending          on s ++ 10 ∷ t, for `Tail t` and `Body s`: AppendingLaws collect-lf, collected-lf: the document collects what s
---                      does and then what the links past the LF add; RemainingLaws appended-keeps: where it defines no name twice,
---                      its links, without those past the LF and the references that s leaves unresolved (Remaining), are those of s
+--                      does and then what the links past the LF add. What that says of two calls is the crate `appending`.
 pub mod Collect
 pub mod Resolve
 pub mod Records
@@ -32,7 +33,6 @@ pub mod Document
 pub mod ReadBack
 pub mod Laws
 pub mod Reach
-pub mod Remaining
 pub mod Rows
 pub mod Inner
 pub mod Cases

@@ -5,7 +5,7 @@ use mathlib.Core.Path.{_≡_}
 use mathlib.Core.List.{List, [], _∷_, _++_, List·Memᴰ}
 use mathlib.Core.Bool.{Bool, true, false}
 use lib.ListN.{length}
-use Rattle.iterator.specs.Collect.{Pair, pair, Collection}
+use Rattle.iterator.specs.Collect.{Pair, pair}
 use Rattle.iterator.specs.Resolve.{has, none, lookup, hit, missed, search}
 
 -- a name has some destination
@@ -32,8 +32,3 @@ leftOver aliases stored = leftFrom (length aliases) aliases stored
 unfoldable pub once : List Pair → Bool
 once [] = true
 once (x ∷ rest) = elim (lookup (x .name) rest) [ has d ↦ false | none ↦ once rest ]
-
--- "A name is defined by each embedded named link and each reported destination or alias block, after numbering": whether none is defined
--- twice
-abbrev pub definesOnce : Collection → Bool
-definesOnce c = once (c .label2dest ++ c .label2label)

@@ -1,10 +1,9 @@
--- Records read back: the four fields of the eight bytes, the link of a record, and the links of several.
+-- Records read back: the four fields of the eight bytes, the link of a record, and the links that records hold.
 -- Assumes nothing.
-use Prim.Native.Nat.{ℕ, zero, suc, _+_, _-_, _*_, _/_, _%_, _≤_}
+use Prim.Native.Nat.{ℕ, zero, suc, _+_, _*_, _/_, _%_}
 use mathlib.Core.List.{List, [], _∷_}
 use lib.ListN.{length, getD, take, drop}
 use Rattle.iterator.specs.Resolve.{Hyperlink}
-use Rattle.iterator.specs.Inner.{Fields}
 
 -- the number of the first eight bytes: the factors are 2^56, 2^48, .., 2^8
 abbrev pub wordAt : List ℕ → ℕ
@@ -45,14 +44,13 @@ linkAtFront n s =
 abbrev pub afterFront : List ℕ → List ℕ
 afterFront s = drop (8 + textLenOf (wordAt s) + destLenOf (wordAt s)) s
 
--- the links of k records
+-- the links of records, at most k of them; the link before the first ended at place n
 unfoldable pub linksRead : ℕ → ℕ → List ℕ → List Hyperlink
 linksRead zero n s = []
-linksRead (suc k) n s = linkAtFront n s ∷ linksRead k (linkAtFront n s .place + linkAtFront n s .consumed) (afterFront s)
+linksRead (suc k) n [] = []
+linksRead (suc k) n (b ∷ s) =
+    linkAtFront n (b ∷ s) ∷ linksRead k (linkAtFront n (b ∷ s) .place + linkAtFront n (b ∷ s) .consumed) (afterFront (b ∷ s))
 
--- links in order, with fields of 15 bits
-unfoldable pub Packable : ℕ → List Hyperlink → Type 0
-Packable n [] = Unit {0}
-Packable n (x ∷ rest) =
-    (n ≤ x .place)
-    × (Fields (x .place - n) (x .consumed) (length (x .text)) (length (x .dest)) × Packable (x .place + x .consumed) rest)
+-- the links that records hold: all of them, since a record has eight bytes or more
+abbrev pub linksIn : List ℕ → List Hyperlink
+linksIn s = linksRead (length s) 0 s

@@ -1,5 +1,5 @@
--- The strings of a link that the scanner finds are no longer than what the link consumed, for any forms whose links are so; and so
--- whatever length the single-link call answers is at most that of the longest document.
+-- The strings of a link that the scanner finds are no longer than what the link consumed, for any forms whose links are so; so are
+-- those of all links of a text, and whatever length the single-link call answers is at most that of the longest document.
 -- Assumes nothing.
 use Prim.Native.Nat.{ℕ, zero, suc, _+_, _-_, _≤_}
 use native.Mathlib.Omega.{arith}
@@ -24,9 +24,11 @@ use Rattle.parse.specs.Link.{Kind, Scanned, found, nothing, behind, orEl
 use Rattle.parse.specs.Forms.{Form, Forms, tried, rst}
 use Rattle.parse.specs.Scan.{Round, ends, passes, later, lfsOf, blockAt, openingOf, referenceAt, followed}
 use Rattle.parse.specs.Scan.{inlineAt, passedOf, textRound, blankRound, lineRound, roundOf, rounds, scanWith, scanOf}
+use Rattle.parse.specs.Links.{linksFrom, linksOf}
 use Rattle.parse.specs.Single.{Outcome, refusal, documentLenMax, isPlace, handed, singleOf}
-use Rattle.parse.specs.Laws.{Inside}
+use Rattle.parse.specs.Laws.{Inside, AllMeasured}
 use Rattle.parse.proofs.ScanLaws.{scan-inside, rst-consuming}
+use Rattle.parse.proofs.LinksLaws.{linksIn}
 
 -- both strings are no longer than what was consumed
 abbrev Sized : Scanned → Type 0
@@ -174,6 +176,30 @@ scan-sized s = rounds-sized rst blocks-sized embedded-sized references-sized s 0
 pub scan-of-sized :
     (s : List ℕ) (k : Kind) (x y : List ℕ) (m n : ℕ) → scanOf s ≡ found k x y m n → (length x ≤ n) × (length y ≤ n)
 scan-of-sized s k x y m n e = subst Sized e (scan-sized s)
+
+-- and of each link of a text
+links-measured : (s : List ℕ) (k n : ℕ) → AllMeasured (linksFrom rst k n s)
+unfolding linksFrom scanOf
+links-measured [] zero n = tt
+links-measured [] (suc k) n = tt
+links-measured (b ∷ s) (suc k) n = links-measured s k (n + 1)
+links-measured (b ∷ s) zero n =
+    go
+    (scanWith rst (b ∷ s))
+    (scan-inside rst rst-consuming (b ∷ s))
+    (scan-sized (b ∷ s))
+    (λ k. links-measured s k (n + 1))
+  where
+    go :
+        (z : Scanned) → Inside 0 (suc (length s)) z → Sized z → ((k : ℕ) → AllMeasured (linksFrom rst k (n + 1) s))
+        → AllMeasured (linksIn rst n s z)
+    go (found kind x y skipped consumed) w v ih = (w .1, v .0, v .1, ih (skipped + consumed - 1))
+    go nothing w v ih = tt
+    go Scanned.no-room w v ih = tt
+
+pub links-of-measured : (s : List ℕ) → AllMeasured (linksOf s)
+unfolding linksOf
+links-of-measured s = links-measured s 0 0
 
 -- every length and place that the single-link call answers is at most that of the longest document
 abbrev pub Small : Outcome → Type 0

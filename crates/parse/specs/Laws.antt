@@ -4,6 +4,7 @@
 use Prim.Native.Nat.{ℕ, _+_, _<_, _≤_}
 use mathlib.Core.Path.{_≡_}
 use mathlib.Core.List.{List, [], _∷_, _++_}
+use lib.ListN.{length}
 use Rattle.rst_bytes.specs.Appending.{Body}
 use Rattle.parse.specs.Link.{Scanned, found, nothing, no-room}
 use Rattle.parse.specs.Forms.{Form, Forms}
@@ -25,6 +26,12 @@ RoundInside m (passes n) = (0 < n) × (n ≤ m)
 abbrev pub Apart : ℕ → ℕ → List Placed → Type 0
 Apart n m [] = n ≤ m
 Apart n m (x ∷ xs) = (n ≤ x .place) × Apart (x .place + x .consumed) m xs
+
+-- each has at least one byte, and strings no longer than what it consumed
+abbrev pub AllMeasured : List Placed → Type 0
+AllMeasured [] = Unit {0}
+AllMeasured (x ∷ xs) =
+    (0 < x .consumed) × (length (x .first) ≤ x .consumed) × (length (x .second) ≤ x .consumed) × AllMeasured xs
 
 -- what each form of a list finds is found on s ++ 10 ∷ t too, and nothing else is
 abbrev pub AllKeeping : List ℕ → List Form → Type 0

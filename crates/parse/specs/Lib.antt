@@ -18,8 +18,9 @@
 --                      with none; scan-room *, scan-of-room: and never for want of room; LinksLaws links-equation *, links-found *,
 --                      links-none *: the links of a text are its first and those of what is behind it
 --   scratch            RoundLaws lent-enough, lent-short: a scratch as long as the text is enough, and is asked for
---   sizes              SizeLaws scan-of-sized: the strings of a link are no longer than what it consumed; single-small: the lengths and
---                      places of the single-link answer are at most that of the longest document
+--   sizes              SizeLaws scan-of-sized: the strings of a link are no longer than what it consumed; links-of-measured: so are those of
+--                      each link of a text, which has at least one byte; single-small: the lengths and places of the single-link
+--                      answer are at most that of the longest document
 --   in order and apart LinksLaws links-apart *, links-of-apart: each link starts at or after the end of the one before
 --   appending          on s ++ 10 ∷ t, for `Tail t` and `Body s`: AppendingLaws scan-lf: a link found in s is found alike; scan-none-lf:
 --                      where none is, whatever is found starts past the LF; links-lf: the links are those of s and then some that start

@@ -1,24 +1,18 @@
 -- LF and a tail behind a document keep its links: where the longer document defines no name twice, what remains of its links, without
 -- those that start in the tail and the references that the first document leaves unresolved, are the first document's links.
 -- Assumes nothing.
-use Prim.Native.Nat.{ℕ, zero, suc, _+_, _-_, _<_, _≤_}
+use Prim.Native.Nat.{ℕ, _+_, _<_, _≤_}
 use native.Mathlib.Omega.{arith}
 use mathlib.Core.Path.{_≡_, refl, ap, sym, subst, _∙_}
 use mathlib.Core.List.{List, [], _∷_, _++_, append-nil, append-assoc}
 use mathlib.Core.Bool.{Bool, true, false, _||_, or-true}
-use lib.Dec.{eqb, ltb}
+use lib.Dec.{eqb}
 use lib.ListN.{length}
 use borrow.Author.Tests.{lt-ltb, le-ltb, eq-eqb, ne-eqb}
 use Rattle.rst_bytes.specs.Appending.{Body, Tail}
-use Rattle.parse.specs.Link.{Scanned, found, nothing, no-room}
-use Rattle.parse.specs.Forms.{Forms, Consuming, rst}
-use Rattle.parse.specs.Scan.{scanWith}
-use Rattle.parse.specs.Links.{Placed, placed, linksFrom, linksOf}
-use Rattle.parse.specs.Laws.{Inside, Apart}
-use Rattle.parse.proofs.ScanLaws.{scan-inside, rst-consuming}
-use Rattle.parse.proofs.LinksLaws.{links-of-apart}
-use Rattle.iterator.specs.Collect.{Pair, Goal, destination, label, Item, Collection, collected, collectAll, new}
+use Rattle.parse.specs.Links.{linksOf}
+use Rattle.iterator.specs.Collect.{Pair, Goal, destination, label, Item, Collection, collected, collectAll}
 use Rattle.iterator.specs.Resolve.{
   Destination,
   has,
   none,
@@ -32,61 +26,21 @@ use Rattle.iterator.specs.Resolve.{
   resolveReferences,
   hyperlinksOf,
 }
-use Rattle.iterator.specs.Laws.{ItemsBehind, From, ends, drops, takes, GrownBehind}
-use Rattle.iterator.specs.Reach.{once, definesOnce}
-use Rattle.iterator.specs.Remaining.{droppedBy, droppedItem, droppedIn, unresolvedOf, isAmong, remaining}
-use Rattle.iterator.proofs.AppendingLaws.{apart-ends, collect-grows, collected-lf}
+use Rattle.iterator.specs.Laws.{ItemsApart, ItemsBehind, GrownBehind}
+use Rattle.iterator.specs.Reach.{once}
+use Rattle.appending.specs.Claim.{
+  holds,
+  definesOnce,
+  droppedBy,
+  droppedItem,
+  droppedIn,
+  unresolvedOf,
+  startsInTail,
+  remaining,
+}
+use Rattle.iterator.proofs.AppendingLaws.{collected-lf}
 use Rattle.iterator.proofs.OnceLaws.{resolved-grows}
-
--- Every link of a text has at least one byte, so no two start at one place.
-abbrev AllSome : List Placed → Type 0
-AllSome [] = Unit {0}
-AllSome (p ∷ ps) = (0 < p .consumed) × AllSome ps
-
-some-from : (forms : Forms) → Consuming forms → (s : List ℕ) (k n : ℕ) → AllSome (linksFrom forms k n s)
-unfolding linksFrom
-some-from forms c [] zero n = tt
-some-from forms c [] (suc k) n = tt
-some-from forms c (b ∷ s) (suc k) n = some-from forms c s k (n + 1)
-some-from forms c (b ∷ s) zero n = go (scanWith forms (b ∷ s)) (scan-inside forms c (b ∷ s)) (λ k. some-from forms c s k (n + 1))
-  where
-    go :
-        (z : Scanned) → Inside 0 (suc (length s)) z → ((k : ℕ) → AllSome (linksFrom forms k (n + 1) s))
-        → AllSome
-        (elim z [
-          | found kind x y skipped consumed ↦ placed n kind x y skipped consumed ∷ linksFrom forms (skipped + consumed - 1) (n + 1) s
-          | nothing ↦ []
-          | no-room ↦ []
-        ])
-    go (found kind x y skipped consumed) w ih = (w .1, ih (skipped + consumed - 1))
-    go nothing w ih = tt
-    go no-room w ih = tt
-
-links-some : (s : List ℕ) → AllSome (linksOf s)
-unfolding linksOf
-links-some s = some-from rst rst-consuming s 0 0
-
--- links that start at place k or behind it, each behind the place of the one before, and none behind place n
-abbrev Rising : ℕ → ℕ → List Item → Type 0
-Rising k n [] = Unit {0}
-Rising k n (x ∷ xs) = (k ≤ x .place) × (x .place ≤ n) × Rising (x .place + 1) n xs
-
-rising-earlier : (j k n : ℕ) (xs : List Item) → j ≤ k → Rising k n xs → Rising j n xs
-rising-earlier j k n [] h w = tt
-rising-earlier j k n (x ∷ xs) h w = (omega arith, w .1, w .2)
-
-from-rising : (k n : ℕ) {xs : List Item} {ps : List Placed} → From xs ps → Apart k n ps → AllSome ps → Rising k n xs
-from-rising k n ends a w = tt
-from-rising k n {xs} (drops {p = p} v) a w =
-    rising-earlier k (p .place + p .consumed) n xs (omega arith) (from-rising (p .place + p .consumed) n v (a .1) (w .1))
-from-rising k n (takes {x = x} {p = p} {xs = xs} {ps = ps} e f v) a w =
-    let h = apart-ends (p .place + p .consumed) n ps (a .1) in
-    let g = a .0 in
-    let i = w .0 in (
-      omega arith,
-      omega arith,
-      rising-earlier (x .place + 1) (p .place + p .consumed) n xs (omega arith) (from-rising (p .place + p .consumed) n v (a .1) (w .1)),
-    )
+use Rattle.iterator.proofs.OrderLaws.{items-end, collected-apart}
 
 -- all of these places are before place k
 abbrev Before : ℕ → List ℕ → Type 0
@@ -101,59 +55,66 @@ before-snoc : (k p : ℕ) (ps : List ℕ) → p < k → Before k ps → Before k
 before-snoc k p [] h w = (h, tt)
 before-snoc k p (q ∷ ps) h w = (w .0, before-snoc k p ps h (w .1))
 
-among-here : (n : ℕ) (ps qs : List ℕ) → isAmong n (ps ++ n ∷ qs) ≡ true
-unfolding isAmong
+among-here : (n : ℕ) (ps qs : List ℕ) → holds n (ps ++ n ∷ qs) ≡ true
+unfolding holds
 among-here n [] qs = rw (eq-eqb n n refl)
-among-here n (p ∷ ps) qs = rw (among-here n ps qs) (or-true (eqb n p))
+among-here n (p ∷ ps) qs = rw (among-here n ps qs) (or-true (eqb p n))
 
 -- a place that is not before k is none of those before k, nor of those behind it
 module _ (n : ℕ) where
-  among-neither : (p : ℕ) (ps : List ℕ) → (n ≡ p → ⊥) → isAmong n ps ≡ false → isAmong n (p ∷ ps) ≡ false
-  unfolding isAmong
-  among-neither p ps h e = rw (ne-eqb n p h) e
+  among-neither : (p : ℕ) (ps : List ℕ) → (n ≡ p → ⊥) → holds n ps ≡ false → holds n (p ∷ ps) ≡ false
+  unfolding holds
+  among-neither p ps h e = rw (ne-eqb p n (λ f. h (sym f))) e
 
-  among-before : (k : ℕ) (ps qs : List ℕ) → k ≤ n → Before k ps → isAmong n qs ≡ false → isAmong n (ps ++ qs) ≡ false
+  among-before : (k : ℕ) (ps qs : List ℕ) → k ≤ n → Before k ps → holds n qs ≡ false → holds n (ps ++ qs) ≡ false
   among-before k [] qs h w e = e
   among-before k (p ∷ ps) qs h w e = among-neither p (ps ++ qs) (λ f. omega arith) (among-before k ps qs h (w .1) e)
 
-  among-behind : (stored : List Pair) (k m : ℕ) (xs : List Item) → n < k → Rising k m xs → isAmong n (droppedIn stored xs) ≡ false
-  unfolding droppedIn isAmong
+  among-behind : (stored : List Pair) (k m : ℕ) (xs : List Item) → n < k → ItemsApart k m xs → holds n (droppedIn stored xs) ≡ false
+  unfolding droppedIn holds
   among-behind stored k m [] h w = refl
   among-behind stored k m (x ∷ xs) h w =
-      go (x .goal) (droppedIn stored xs) (among-behind stored (x .place + 1) m xs (omega arith) (w .2))
+      go (x .goal) (droppedIn stored xs) (among-behind stored (x .place + x .consumed) m xs (omega (arith, w .0)) (w .2))
     where
-      by : (d : Destination) (rest : List ℕ) → isAmong n rest ≡ false → isAmong n (droppedBy x d rest) ≡ false
+      by : (d : Destination) (rest : List ℕ) → holds n rest ≡ false → holds n (droppedBy x d rest) ≡ false
       by (has d) rest e = e
       by none rest e = among-neither (x .place) rest (λ f. omega arith) e
 
-      go : (g : Goal) (rest : List ℕ) → isAmong n rest ≡ false → isAmong n (droppedItem stored x g rest) ≡ false
+      go : (g : Goal) (rest : List ℕ) → holds n rest ≡ false → holds n (droppedItem stored x g rest) ≡ false
       go (destination d) rest e = e
       go (label name) rest e = by (lookup name stored) rest e
+
+-- Whether a link starts in the tail
+in-tail : (n : ℕ) (x : Hyperlink) → n < x .place → startsInTail n x ≡ true
+in-tail n x h = lt-ltb _ (x .place) (omega arith)
+
+not-in-tail : (n : ℕ) (x : Hyperlink) → x .place ≤ n → startsInTail n x ≡ false
+not-in-tail n x h = le-ltb _ (x .place) (omega arith)
 
 -- What remains of one link and the others
 module _ (n : ℕ) (places : List ℕ) (x : Hyperlink) (rest : List Hyperlink) where
   by-place :
-      (t : Bool) → (ltb n (x .place) || isAmong (x .place) places) ≡ t
+      (t : Bool) → (startsInTail n x || holds (x .place) places) ≡ t
       → remaining n places (x ∷ rest) ≡ elim t [ true ↦ remaining n places rest | false ↦ x ∷ remaining n places rest ]
   unfolding remaining
   by-place t e =
       ap {B = List Hyperlink} (λ (t : Bool). elim t [ true ↦ remaining n places rest | false ↦ x ∷ remaining n places rest ]) e
 
-  remains : x .place ≤ n → isAmong (x .place) places ≡ false → remaining n places (x ∷ rest) ≡ x ∷ remaining n places rest
-  remains h e = by-place false (rw (le-ltb n (x .place) h) e)
+  remains : x .place ≤ n → holds (x .place) places ≡ false → remaining n places (x ∷ rest) ≡ x ∷ remaining n places rest
+  remains h e = by-place false (rw (not-in-tail n x h) e)
 
-  left-out : isAmong (x .place) places ≡ true → remaining n places (x ∷ rest) ≡ remaining n places rest
-  left-out e = by-place true (rw e (or-true (ltb n (x .place))))
+  left-out : holds (x .place) places ≡ true → remaining n places (x ∷ rest) ≡ remaining n places rest
+  left-out e = by-place true (rw e (or-true (startsInTail n x)))
 
   left-behind : n < x .place → remaining n places (x ∷ rest) ≡ remaining n places rest
-  left-behind h = by-place true (rw (lt-ltb n (x .place) h))
+  left-behind h = by-place true (rw (in-tail n x h))
 
 remaining-append :
     (n : ℕ) (places : List ℕ) (xs ys : List Hyperlink)
     → remaining n places (xs ++ ys) ≡ remaining n places xs ++ remaining n places ys
 unfolding remaining
 remaining-append n places [] ys = refl
-remaining-append n places (x ∷ xs) ys = go (ltb n (x .place) || isAmong (x .place) places) (remaining-append n places xs ys)
+remaining-append n places (x ∷ xs) ys = go (startsInTail n x || holds (x .place) places) (remaining-append n places xs ys)
   where
     go :
         (t : Bool) → remaining n places (xs ++ ys) ≡ remaining n places xs ++ remaining n places ys
@@ -207,21 +168,24 @@ module _
     (stored stored′ : List Pair)
     (keeps : (name d : List ℕ) → lookup name stored ≡ has d → lookup name stored′ ≡ has d) where
   items-kept :
-      (xs : List Item) (k : ℕ) (before : List ℕ) → Before k before → Rising k n xs
+      (xs : List Item) (k : ℕ) (before : List ℕ) → Before k before → ItemsApart k n xs
       → remaining n (before ++ droppedIn stored xs) (resolveReferences stored′ xs) ≡ resolveReferences stored xs
   unfolding remaining resolveReferences droppedIn
   items-kept [] k before w r = refl
   items-kept (x ∷ xs) k before w r =
       go
       (x .goal)
-      (items-kept xs (x .place + 1) before (before-later k (x .place + 1) before (omega arith) w) (r .2))
+      (items-kept xs (x .place + x .consumed) before earlier (r .2))
       (items-kept
       xs
-      (x .place + 1)
+      (x .place + x .consumed)
       (before ++ x .place ∷ [])
-      (before-snoc (x .place + 1) (x .place) before (omega arith) (before-later k (x .place + 1) before (omega arith) w))
+      (before-snoc (x .place + x .consumed) (x .place) before (omega (arith, r .1 .0)) earlier)
       (r .2))
     where
+      earlier : Before (x .place + x .consumed) before
+      earlier = before-later k (x .place + x .consumed) before (omega (arith, r .0)) w
+
       stays :
           (text d : List ℕ)
           → remaining n (before ++ droppedIn stored xs) (resolveReferences stored′ xs) ≡ resolveReferences stored xs
@@ -233,7 +197,7 @@ module _
           (before ++ droppedIn stored xs)
           (hyperlink x text d)
           (resolveReferences stored′ xs)
-          (r .1)
+          (omega (arith, items-end xs (x .place + x .consumed) n (r .2)))
           (among-before
           (x .place)
           k
@@ -241,7 +205,7 @@ module _
           (droppedIn stored xs)
           (r .0)
           w
-          (among-behind (x .place) stored (x .place + 1) n xs (omega arith) (r .2)))
+          (among-behind (x .place) stored (x .place + x .consumed) n xs (omega (arith, r .1 .0)) (r .2)))
           ∙ ap (λ (l : List Hyperlink). hyperlink x text d ∷ l) e
 
       goes :
@@ -298,7 +262,7 @@ stored-keeps aliases aliases′ stored stored′ zs ys e f o name d g =
 
 -- what is collected, and what it grew to
 grown-keeps :
-    (n : ℕ) (c d : Collection) → GrownBehind n c d → Rising 0 n (c .links) → definesOnce d ≡ true
+    (n : ℕ) (c d : Collection) → GrownBehind n c d → ItemsApart 0 n (c .links) → definesOnce d ≡ true
     → remaining n (unresolvedOf c) (hyperlinksOf d) ≡ hyperlinksOf c
 grown-keeps n c d g r o =
     let stored = resolveAliases (c .label2label) (c .label2dest) in
@@ -335,13 +299,6 @@ grown-keeps n c d g r o =
 one-collection : {c d : Collection} → collected c ≡ collected d → c ≡ d
 one-collection e = cc
 
--- the links that a document collects
-collected-rising :
-    (render : ℕ) (s : List ℕ) (c : Collection) → collectAll render s (linksOf s) ≡ collected c → Rising 0 (length s) (c .links)
-collected-rising render s c e =
-    let w = collect-grows render s new (linksOf s) c e in
-    rw (w .0 .0 .is) (from-rising 0 (length s) (w .1) (links-of-apart s) (links-some s))
-
 -- Of two documents that are not refused, the second of which is the first, LF and a tail, and defines no name twice.
 pub appended-keeps :
     (render : ℕ) (s t : List ℕ) → Tail t → Body s → (c d : Collection) → collectAll render s (linksOf s) ≡ collected c
@@ -350,4 +307,4 @@ pub appended-keeps :
 appended-keeps render s t h b c d e f o =
     let w = collected-lf render s t h b d f in
     let g : w .0 ≡ c = one-collection (sym (w .1) ∙ e) in
-    grown-keeps (length s) c d (subst (λ (x : Collection). GrownBehind (length s) x d) g (w .2)) (collected-rising render s c e) o
+    grown-keeps (length s) c d (subst (λ (x : Collection). GrownBehind (length s) x d) g (w .2)) (collected-apart render s c e) o
