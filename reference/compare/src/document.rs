@@ -80,13 +80,13 @@ impl fmt::Debug for Left {
 }
 
 /// What the areas hold before a call: anything, small numbers and great ones.
-struct Garbage {
-    numbers: Vec<u32>,
-    bytes: Vec<u8>,
+pub struct Garbage {
+    pub numbers: Vec<u32>,
+    pub bytes: Vec<u8>,
 }
 
 impl Garbage {
-    fn new(random: &mut Random) -> Garbage {
+    pub fn new(random: &mut Random) -> Garbage {
         let mut number = |_| match random.below(3) {
             0 => random.draw() as u32,
             1 => random.below(300) as u32,
@@ -103,7 +103,7 @@ impl Garbage {
 }
 
 /// So many elements of a list, from a place that the turn gives.
-fn some<T>(list: &[T], turn: usize, length: usize) -> &[T] {
+pub fn some<T>(list: &[T], turn: usize, length: usize) -> &[T] {
     let start = turn * 7_919 % (list.len() - length + 1);
     &list[start..][..length]
 }

@@ -268,6 +268,6 @@ pub const KINDS: [Kind; 8] = [
     kind("about as long as may be", 200, long),
 ];
 
-const fn kind(name: &'static str, rounds: u64, draw: fn(&mut Random) -> Vec<u8>) -> Kind {
+pub const fn kind(name: &'static str, rounds: u64, draw: fn(&mut Random) -> Vec<u8>) -> Kind {
     Kind { name, rounds, draw }
 }

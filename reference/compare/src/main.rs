@@ -1,28 +1,39 @@
 //! Compares the proved pieces and parsers, the single-link call and the document
-//! call with the Rust's own, on inputs of several kinds.
+//! call with the Rust's own, on inputs of several kinds; and looks for pairs of
+//! documents that speak against the claim about appended tails.
 //!
-//!     compare [--seconds N] [--minutes N] [--documents N] [--seed N] [--only PART]
+//!     compare [--seconds N] [--minutes N] [--documents N] [--pairs N] [--seed N]
+//!             [--only PART]
 //!     compare --sample [--seed N]
 //!
 //! All short inputs are always tried; drawn ones for N seconds (10) or minutes,
-//! from a seed (1): half of the time for the document call, the other half for
-//! the single-link call and for the pieces and parsers. With `--documents`, the
-//! document call goes on until so many documents are drawn. `--only` names one of
-//! `parsers`, `single`, `document`, which then has all the time. A piece, a parser
-//! or a call on one kind of inputs is one test; the last line counts them.
+//! from a seed (1): three eighths of the time for the document call, a quarter
+//! for the single-link call, a quarter for the pieces and parsers, an eighth for
+//! appended tails. With `--documents`, the document call goes on until so many
+//! documents are drawn; with `--pairs`, appended tails until so many pairs are
+//! drawn that meet all premises of the claim. `--only` names one of `parsers`,
+//! `single`, `document`, `appended`, which then has all the time. A piece, a
+//! parser, a call or the claim on one kind of inputs is one test; the last line
+//! counts them.
 //!
 //! `--sample` makes some fifty thousand calls of both kinds, whose areas end
 //! where their allocations do, for a tool that watches memory.
 
+mod appended;
+mod claim;
 mod document;
 mod documents;
 mod inputs;
 mod met;
+mod pairs;
+mod pairs_met;
 mod parsers;
 mod pieces;
 mod single;
 mod test;
+mod writer;
 
+use appended::Tally;
 use driver::random::Random;
 use met::{DocumentsMet, Met};
 use std::env;
@@ -73,6 +84,17 @@ fn whole_documents(count: &mut Count, seed: u64, time: Duration, least: u64) {
     met.end(count);
 }
 
+/// Short pairs, and drawn ones until the time is over and there were enough that
+/// meet all premises.
+fn appended_tails(count: &mut Count, seed: u64, time: Duration, least: u64) {
+    let mut tally = Tally::new();
+    appended::all(count, &mut tally);
+    let began = Instant::now();
+    let goes_on = |pairs| began.elapsed() < time || pairs < least;
+    appended::drawn(count, &mut tally, seed, goes_on);
+    tally.end(count);
+}
+
 /// Some calls of both kinds.
 fn sample(count: &mut Count, seed: u64) {
     let mut met = Met::default();
@@ -97,24 +119,28 @@ fn main() {
     let minutes = number("--minutes").map(|n| 60 * n);
     let seconds = number("--seconds").or(minutes).unwrap_or(10);
     let seed = number("--seed").unwrap_or(1);
-    let least = number("--documents").unwrap_or(0);
+    let documents = number("--documents").unwrap_or(0);
+    let pairs = number("--pairs").unwrap_or(0);
     let only = word("--only");
     let mut count = Count::default();
-    let time = |part: &str, share: u32| match only.as_deref() {
-        None => Some(Duration::from_secs(seconds) / share),
+    let time = |part: &str, eighths: u32| match only.as_deref() {
+        None => Some(Duration::from_secs(seconds) * eighths / 8),
         Some(name) => (name == part).then_some(Duration::from_secs(seconds)),
     };
     if env::args().any(|word| word == "--sample") {
         sample(&mut count, seed);
     } else {
-        if let Some(time) = time("parsers", 4) {
+        if let Some(time) = time("parsers", 2) {
             pieces_and_parsers(&mut count, seed, time);
         }
-        if let Some(time) = time("single", 4) {
+        if let Some(time) = time("single", 2) {
             single_links(&mut count, seed, time);
         }
-        if let Some(time) = time("document", 2) {
-            whole_documents(&mut count, seed, time, least);
+        if let Some(time) = time("document", 3) {
+            whole_documents(&mut count, seed, time, documents);
+        }
+        if let Some(time) = time("appended", 1) {
+            appended_tails(&mut count, seed, time, pairs);
         }
     }
     println!("{} passed, {} failed", count.passed, count.failed);

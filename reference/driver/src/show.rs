@@ -1,7 +1,7 @@
 //! Answers as text: what the program `rstlinks` prints, and one line for each
 //! answer of the calls, for tables of cases and for the binary.
 
-use crate::document::{BYTES_MIN, NUMBERS_MIN, Outcome, document, links_in};
+use crate::document::{BYTES_MIN, NUMBERS_MIN, Outcome, Shown, document, links_in};
 use crate::names::Names;
 use crate::parsers::Parsed;
 use crate::single::{KINDS, Single, take_link_at};
@@ -22,15 +22,15 @@ pub fn quoted(bytes: &[u8]) -> String {
     shown + "\""
 }
 
-/// The lines of the links that records hold: place, consumed, text, destination.
+/// The line of a link: place, consumed, text, destination.
+pub fn link(link: &Shown) -> String {
+    let (text, destination) = (quoted(&link.text), quoted(&link.destination));
+    format!("{} {} {text} {destination}", link.place, link.consumed)
+}
+
+/// The lines of the links that records hold.
 fn link_lines(records: &[u8]) -> Vec<String> {
-    links_in(records)
-        .iter()
-        .map(|link| {
-            let (text, destination) = (quoted(&link.text), quoted(&link.destination));
-            format!("{} {} {text} {destination}", link.place, link.consumed)
-        })
-        .collect()
+    links_in(records).iter().map(link).collect()
 }
 
 /// What `rstlinks` prints for a document.
