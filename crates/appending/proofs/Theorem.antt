@@ -1,9 +1,8 @@
 -- The claim holds of any two calls: an accepted call's records hold the links of what its document collects (iterator, AcceptedLaws), and what
 -- the second document collects keeps the links of the first (RemainingLaws appended-keeps).
 -- Assumes nothing.
-use Prim.Native.Nat.{ℕ, _+_, _≤_}
-use native.Mathlib.Omega.{arith}
-use mathlib.Core.Path.{_≡_, refl, sym, ap, ap₂, subst, _∙_}
+use Prim.Native.Nat.{ℕ, _+_}
+use mathlib.Core.Path.{_≡_, refl, sym, ap, subst, _∙_}
 use mathlib.Core.List.{List, [], _∷_, _++_, map}
 use mathlib.Core.Bool.{Bool, true, false, _||_, true≢false}
 use lib.Dec.{eqb}
@@ -12,7 +11,7 @@ use Rattle.rst_bytes.specs.Escaped.{isStop}
 use Rattle.rst_bytes.specs.Line.{isSpace}
 use Rattle.rst_bytes.specs.Appending.{free, endsInCr, startsSpace}
 use Rattle.parse.specs.Links.{linksOf}
-use Rattle.iterator.specs.Collect.{Collection, Collected, collected, refused, collectAll, new}
+use Rattle.iterator.specs.Collect.{Collection, collected, collectAll}
 use Rattle.iterator.specs.Resolve.{Hyperlink, hyperlinksOf}
 use Rattle.iterator.specs.Document.{Answer, Verdict, verdictOf}
 use Rattle.iterator.specs.Laws.{Standing, Accepted}
@@ -33,9 +32,7 @@ use Rattle.appending.specs.Claim.{
   definesOnce,
   unresolvedOf,
   unresolved,
-  linksHeld,
   remaining,
-  Seen,
   seen,
   Keeps,
   Theorem,

@@ -1,13 +1,13 @@
 -- An accepted document is collected, and its links are those that its records hold: every test that refuses it gives another number
 -- than 0, and records of links in order, with strings no longer than a document, read back as these.
 -- Assumes nothing.
-use Prim.Native.Nat.{ℕ, suc, _<_, _≤_}
+use Prim.Native.Nat.{ℕ, _<_, _≤_}
 use mathlib.Core.Path.{_≡_, refl, ap, _∙_}
-use mathlib.Core.List.{List, _++_}
+use mathlib.Core.List.{List}
 use mathlib.Core.Bool.{_||_}
 use native.Mathlib.Omega.{arith}
 use lib.Dec.{ltb}
-use lib.ListN.{length, take, drop}
+use lib.ListN.{length, take}
 use lib.Seq.{take-at}
 use borrow.Author.Tests.{ltb-false}
 use Rattle.rst_bytes.specs.declared.Outside.{Outside}
@@ -17,9 +17,9 @@ use Rattle.rst_bytes.proofs.TestLaws.{by-test}
 use Rattle.parse.specs.Links.{linksOf}
 use Rattle.parse.specs.Single.{documentLenMax}
 use Rattle.iterator.specs.Collect.{Collected, collected, refused, collectAll}
-use Rattle.iterator.specs.Resolve.{Hyperlink, hyperlinksOf}
+use Rattle.iterator.specs.Resolve.{hyperlinksOf}
 use Rattle.iterator.specs.Records.{recordsOf}
-use Rattle.iterator.specs.Document.{Verdict, refusal, numbersMin, bytesMin, handed, answered, verdictOf}
+use Rattle.iterator.specs.Document.{Verdict, refusal, numbersMin, bytesMin, answered, verdictOf}
 use Rattle.iterator.specs.ReadBack.{linksIn}
 use Rattle.iterator.specs.Laws.{Accepted}
 use Rattle.iterator.proofs.OrderLaws.{refused-number, collected-standing}

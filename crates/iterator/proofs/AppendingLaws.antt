@@ -90,7 +90,7 @@ add-append label2dest render s u p c h =
 add-append label2label render s u p c h = refl
 
 -- links that are apart and end by place m
-pub apart-ends : (n m : ℕ) (ps : List Placed) → Apart n m ps → n ≤ m
+apart-ends : (n m : ℕ) (ps : List Placed) → Apart n m ps → n ≤ m
 apart-ends n m [] a = a
 apart-ends n m (p ∷ ps) a =
     let h = apart-ends (p .place + p .consumed) m ps (a .1) in

@@ -4,11 +4,11 @@
 -- Assumes nothing.
 use Prim.Native.Nat.{ℕ, _+_, _<_, _≤_}
 use native.Mathlib.Omega.{arith}
-use mathlib.Core.Path.{_≡_, refl, sym, ap, subst, _∙_}
+use mathlib.Core.Path.{_≡_, refl, subst}
 use mathlib.Core.List.{List, [], _∷_, _++_}
 use mathlib.Core.Bool.{Bool, true, false}
 use lib.Dec.{eqb, ltb}
-use lib.ListN.{length, take, drop, length-take}
+use lib.ListN.{length, drop, length-take}
 use Rattle.parse.specs.Link.{Kind, text2dest, text-label2dest, text2label, label2dest, label2label}
 use Rattle.parse.specs.Links.{Placed, linksOf}
 use Rattle.parse.specs.Laws.{Apart, AllMeasured}
@@ -54,7 +54,6 @@ use Rattle.iterator.specs.Resolve.{
   none,
   lookup,
   same,
-  shownOf,
   Hyperlink,
   resolvedBy,
   resolvedItem,

@@ -5,9 +5,6 @@ use Rattle.appending.proofs.Theorem.{verdictIn, calls-keep}
 use borrow.Author.Needs.{needs}
 use Rattle.appending.proofs.append_keeps.Statement.{statement}
 use Rattle.appending.proofs.append_keeps.Tie as tie
-use Rattle.appending.proofs.append_keeps.Reads as reads
-use Rattle.appending.proofs.append_keeps.Lts as lts
-use Rattle.iterator.proofs.document.Reads as document-reads
 
 document-requires : tie.Need-document-requires
 document-requires c κs = search needs
