@@ -52,7 +52,7 @@ const SEEN: [&str; 34] = [
     "the first ends in a backslash",
     "the first ends in `_`",
     "the first ends in a line feed",
-    "the first leaves a backtick open",
+    "the first has an odd number of backticks",
     "the first ends in a name without a target",
     "the first ends in a destination block",
     "the first ends in an alias block",
