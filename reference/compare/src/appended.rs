@@ -72,14 +72,18 @@ impl Pair {
         }
     }
 
-    /// Prints the pair, the links of its first with an option, and what remains of
+    /// Says the pair, the links of its first with an option, and what remains of
     /// those of the second.
-    fn print(&self, reader: &mut Reader, render: usize) {
+    fn say(&self, count: &mut Count, reader: &mut Reader, render: usize) {
         let (first, tail) = (show::quoted(&self.first), show::quoted(&self.tail));
-        println!("    render {render}, first {first}, tail {tail}");
+        count.say(format_args!(
+            "    render {render}, first {first}, tail {tail}"
+        ));
         if let Some((first, second)) = self.read(reader) {
-            println!("      links {}", lines(&first, &first.links[render]));
-            println!("      remaining {}", lines(&first, &second.links[render]));
+            let before = lines(&first, &first.links[render]);
+            let after = lines(&first, &second.links[render]);
+            count.say(format_args!("      links {before}"));
+            count.say(format_args!("      remaining {after}"));
         }
     }
 }
@@ -146,11 +150,12 @@ impl Found {
         }
     }
 
-    /// Prints the shortest, made as short as they can be.
-    fn print(self, reader: &mut Reader, met: Premises) {
+    /// Says the shortest, made as short as they can be.
+    fn say(self, count: &mut Count, reader: &mut Reader, met: Premises) {
         for (render, pair) in self.shortest.into_iter().enumerate() {
             if let Some(pair) = pair {
-                pair.shortest(reader, met, render).print(reader, render);
+                let pair = pair.shortest(reader, met, render);
+                pair.say(count, reader, render);
             }
         }
     }
@@ -246,20 +251,23 @@ impl Tally {
         let garbage = Garbage::new(&mut Random::new(0));
         let mut reader = Reader::new(&garbage);
         let (tried, refused) = (self.tried, self.refused);
-        println!("appended tails: {tried} pairs, {refused} of them refused, of the others");
+        count.say(format_args!(
+            "appended tails: {tried} pairs, {refused} of them refused, of the others"
+        ));
         for ((met, name), found) in PREMISES.into_iter().zip(self.found) {
-            println!("  {name}: {}, {} against", found.tried, found.against);
+            let (tried, against) = (found.tried, found.against);
+            count.say(format_args!("  {name}: {tried}, {against} against"));
             if met == Premises::BreaksSeveral {
                 continue;
             }
-            count.ask(found.tried > 0 && (found.against > 0) == (met != Premises::Met));
-            found.print(&mut reader, met);
+            count.ask(tried > 0 && (against > 0) == (met != Premises::Met));
+            found.say(count, &mut reader, met);
         }
         self.met.end(count);
-        println!(
+        count.say(format_args!(
             "  unresolved references that are none in the second: {}",
             self.moved
-        );
+        ));
         count.ask(self.moved == 0);
     }
 }
@@ -321,10 +329,10 @@ impl Pairs<'_> {
 
     fn end(self, count: &mut Count, tally: &mut Tally) {
         let proper = self.tally.proper();
-        println!(
+        count.say(format_args!(
             "appended tails, {}: {} pairs, {} meet all premises, {} against the claim",
             self.name, self.tally.tried, proper.tried, proper.against
-        );
+        ));
         count.ask(proper.against == 0 && proper.tried > 0);
         tally.join(self.tally);
     }

@@ -7,9 +7,10 @@
 //!     compare --sample [--seed N]
 //!
 //! All short inputs are always tried; drawn ones for N seconds (10) or minutes,
-//! from a seed (1): three eighths of the time for the document call, a quarter
-//! for the single-link call, a quarter for the pieces and parsers, an eighth for
-//! appended tails. With `--documents`, the document call goes on until so many
+//! from a seed (1): three eighths of the time for the document call and an eighth
+//! for appended tails; a quarter for the single-link call and a quarter for the
+//! pieces and parsers. The two halves run side by side, on two processors where
+//! there are two. With `--documents`, the document call goes on until so many
 //! documents are drawn; with `--pairs`, appended tails until so many pairs are
 //! drawn that meet all premises of the claim. `--only` names one of `parsers`,
 //! `single`, `document`, `appended`, which then has all the time. A piece, a
@@ -37,8 +38,12 @@ use appended::Tally;
 use driver::random::Random;
 use met::{DocumentsMet, Met};
 use std::env;
+use std::thread;
 use std::time::{Duration, Instant};
 use test::Count;
+
+/// The stack of the half of whole documents, as large as the other's.
+const STACK: usize = 8 << 20;
 
 /// Short inputs, and drawn ones until the time is over, all pieces and parsers on
 /// each.
@@ -122,26 +127,45 @@ fn main() {
     let documents = number("--documents").unwrap_or(0);
     let pairs = number("--pairs").unwrap_or(0);
     let only = word("--only");
-    let mut count = Count::default();
     let time = |part: &str, eighths: u32| match only.as_deref() {
         None => Some(Duration::from_secs(seconds) * eighths / 8),
         Some(name) => (name == part).then_some(Duration::from_secs(seconds)),
     };
-    if env::args().any(|word| word == "--sample") {
-        sample(&mut count, seed);
-    } else {
+    let small = || {
+        let mut count = Count::default();
         if let Some(time) = time("parsers", 2) {
             pieces_and_parsers(&mut count, seed, time);
+            count.print();
         }
         if let Some(time) = time("single", 2) {
             single_links(&mut count, seed, time);
+            count.print();
         }
+        count
+    };
+    let whole = || {
+        let mut count = Count::default();
         if let Some(time) = time("document", 3) {
             whole_documents(&mut count, seed, time, documents);
+            count.print();
         }
         if let Some(time) = time("appended", 1) {
             appended_tails(&mut count, seed, time, pairs);
+            count.print();
         }
+        count
+    };
+    let mut count = Count::default();
+    if env::args().any(|word| word == "--sample") {
+        sample(&mut count, seed);
+        count.print();
+    } else {
+        thread::scope(|scope| {
+            let beside = thread::Builder::new().stack_size(STACK);
+            let documents = beside.spawn_scoped(scope, whole).expect("a thread");
+            count.join(&small());
+            count.join(&documents.join().expect("the half of whole documents"));
+        });
     }
     println!("{} passed, {} failed", count.passed, count.failed);
     std::process::exit(i32::from(count.failed > 0 || count.passed == 0));

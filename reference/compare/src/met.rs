@@ -51,9 +51,12 @@ impl Met {
     /// Says how many calls there were, by answer; that each answer was met is a
     /// test of its own.
     pub fn end(self, count: &mut Count) {
-        println!("the single-link call: {} calls, which gave", self.calls());
+        count.say(format_args!(
+            "the single-link call: {} calls, which gave",
+            self.calls()
+        ));
         for (name, met) in self.counts() {
-            println!("  {name}: {met}");
+            count.say(format_args!("  {name}: {met}"));
             count.ask(met > 0);
         }
     }
@@ -176,14 +179,16 @@ impl DocumentsMet {
     pub fn end(self, count: &mut Count) {
         let calls: u64 = self.numbers.iter().sum();
         let documents = self.documents;
-        println!("the document call: {documents} documents, {calls} calls, which gave");
+        count.say(format_args!(
+            "the document call: {documents} documents, {calls} calls, which gave"
+        ));
         for (number, met) in self.numbers.into_iter().enumerate() {
-            println!("  {number}: {met}");
+            count.say(format_args!("  {number}: {met}"));
             count.ask(met > 0);
         }
-        println!("and in the documents");
+        count.say(format_args!("and in the documents"));
         for (name, met) in SEEN.into_iter().zip(self.seen) {
-            println!("  {name}: {met}");
+            count.say(format_args!("  {name}: {met}"));
             count.ask(met > 0);
         }
     }

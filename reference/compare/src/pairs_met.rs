@@ -200,9 +200,9 @@ impl PairsMet {
 
     /// Says what was met; that each was met is a test of its own.
     pub fn end(self, count: &mut Count) {
-        println!("and in those that meet all premises");
+        count.say("and in those that meet all premises");
         for (name, met) in SEEN.into_iter().zip(self.seen) {
-            println!("  {name}: {met}");
+            count.say(format_args!("  {name}: {met}"));
             count.ask(met > 0);
         }
     }

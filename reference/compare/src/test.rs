@@ -72,14 +72,29 @@ impl Test {
     }
 }
 
-/// The tests so far, passed and failed.
+/// The tests so far, passed and failed, and the lines to print of them.
 #[derive(Default)]
 pub struct Count {
     pub passed: u64,
     pub failed: u64,
+    lines: String,
 }
 
 impl Count {
+    pub fn say(&mut self, line: impl Display) {
+        self.lines += &format!("{line}\n");
+    }
+
+    /// Prints the lines so far, all at once.
+    pub fn print(&mut self) {
+        print!("{}", std::mem::take(&mut self.lines));
+    }
+
+    pub fn join(&mut self, other: &Count) {
+        self.passed += other.passed;
+        self.failed += other.failed;
+    }
+
     /// A test that holds or does not.
     pub fn ask(&mut self, holds: bool) {
         self.passed += u64::from(holds);
@@ -87,12 +102,12 @@ impl Count {
     }
 
     pub fn end(&mut self, test: Test) {
-        println!(
+        self.say(format_args!(
             "{}: {} inputs, {} accepted, {} differ",
             test.name, test.tried, test.accepted, test.differ
-        );
+        ));
         if let Some(d) = &test.shortest {
-            println!("  {:02X?}, {}", d.input, d.said);
+            self.say(format_args!("  {:02X?}, {}", d.input, d.said));
         }
         self.ask(test.differ == 0 && test.tried > 0);
     }
