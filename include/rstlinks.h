@@ -45,6 +45,16 @@
  * h >> 34 & 0x7FFF, h >> 19 & 0x7FFF and h >> 4 & 0x7FFF. A link's place is the
  * sum of skipped and consumed of all records before it, and its own skipped. The
  * strings are UTF-8 and not ended by zero; either may be empty.
+ *
+ * Appended notes
+ *
+ * Where a note, and the same note with a line feed and a tail behind it, are both
+ * accepted with one option, the second has every link of the first, in the same
+ * order, each with the same place, consumed bytes, text and destination. Its
+ * other links start in the tail, or are references that had no destination in
+ * the first. This is so where the first note does not end in a carriage return,
+ * the tail holds no backtick and begins with neither space nor tab, and the
+ * second note defines no name twice.
  */
 #ifndef RSTLINKS_H
 #define RSTLINKS_H
