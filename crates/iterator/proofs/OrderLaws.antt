@@ -67,6 +67,7 @@ use Rattle.iterator.specs.Reach.{Reaches, stands, follows}
 use Rattle.iterator.proofs.RecordLaws.{shown-le}
 use Rattle.iterator.proofs.ReachLaws.{sound}
 
+-- Collected links in order and apart: with a later end, with one more behind them, and that the end is not before the start
 items-wider : (xs : List Item) (n m k : ℕ) → m ≤ k → ItemsApart n m xs → ItemsApart n k xs
 items-wider [] n m k h w = omega arith
 items-wider (x ∷ xs) n m k h w = (w .0, w .1, items-wider xs (x .place + x .consumed) m k h (w .2))
