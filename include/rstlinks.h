@@ -54,7 +54,10 @@
  * other links start in the tail, or are references that had no destination in
  * the first. This is so where the first note does not end in a carriage return,
  * the tail holds no backtick and begins with neither space nor tab, and the
- * second note defines no name twice.
+ * second note defines no name twice. A name is defined by each embedded link
+ * with one underscore behind it, which is case 2 below, and by each block of
+ * cases 4 and 5, anonymous ones numbered _1, _2, ..; a block that is consumed
+ * as part of the link before it defines none.
  */
 #ifndef RSTLINKS_H
 #define RSTLINKS_H

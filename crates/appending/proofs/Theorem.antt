@@ -28,7 +28,7 @@ use Rattle.appending.specs.Claim.{
   holds,
   beginsWith,
   endsWith,
-  collectionOf,
+  collectedBy,
   definesOnce,
   unresolvedOf,
   unresolved,
@@ -64,9 +64,9 @@ no-blank [] h k = refl
 no-blank (b ∷ t) h k = rw (h, k)
 
 -- what an accepted document collects
-collection-of :
-    (render : ℕ) (s : List ℕ) (c : Collection) → collectAll render s (linksOf s) ≡ collected c → collectionOf render s ≡ c
-collection-of render s c e = rw (e, collectionOf) refl
+collected-by :
+    (render : ℕ) (s : List ℕ) (c : Collection) → collectAll render s (linksOf s) ≡ collected c → collectedBy render s ≡ c
+collected-by render s c e = rw (e, collectedBy) refl
 
 -- Links that end within s consume the same bytes with more behind s.
 seen-kept :
@@ -101,13 +101,13 @@ accepted-keep render first second v w a b t e f g cr bt sp tb once =
     d
     (a .collects)
     (subst (λ (s : List ℕ). collectAll render s (linksOf s) ≡ collected d) e (b .collects))
-    (subst (λ (x : Collection). definesOnce x ≡ true) (collection-of render second d (b .collects)) once) in
+    (subst (λ (x : Collection). definesOnce x ≡ true) (collected-by render second d (b .collects)) once) in
     ap
     (λ (l : List Hyperlink). map (seen second) (remaining (length first) (unresolved render first) l))
     (accepted-held render second w b)
     ∙ ap
     (λ (x : Collection). map (seen second) (remaining (length first) (unresolvedOf x) (hyperlinksOf d)))
-    (collection-of render first c (a .collects))
+    (collected-by render first c (a .collects))
     ∙ ap (map (seen second)) kept
     ∙ ap (λ (s : List ℕ). map (seen s) (hyperlinksOf c)) e
     ∙ seen-kept first (lineFeed ∷ t) (hyperlinksOf c) 0 (collected-standing render first c (a .collects))
@@ -128,10 +128,11 @@ appending-keeps render first second numbers bytes output numbers′ bytes′ out
     f
     g
 
--- The same of two calls by what the document call promises: v and w are what they returned and left in their outputs.
+-- an answer without the work areas
 abbrev pub verdictIn : Answer → Verdict
 verdictIn a = record { number = a .number; links = a .links; bytes = a .bytes; output = a .output }
 
+-- The same of two calls by what the document call promises: v and w are what they returned and left in their outputs.
 pub calls-keep :
     (render : ℕ) (first second : List ℕ) (numbers bytes : ℕ) (output : List ℕ) (numbers′ bytes′ : ℕ) (output′ : List ℕ)
     (v w : Verdict) → v ≡ verdictOf first render numbers bytes output → w ≡ verdictOf second render numbers′ bytes′ output′

@@ -10,9 +10,11 @@
 -- that the document call's definition lets any two calls return; proofs/Theorem.antt proves it.
 --
 -- Used of the document reader's definitions (crates/iterator/specs): a Verdict is what a call returned, number, links and bytes, with the output
--- as it was left; `linksIn` reads the links that records hold from their bytes, each with its place, the count of consumed bytes, text and
--- destination; `collectAll` is what the links of a document give: the collected links, the names with a destination and the aliases, after
--- numbering; `resolveAliases` gives the names that have a destination in the end, and `lookup` the destination of a name.
+-- as it was left; `linksHeldIn` reads the links that records hold from their bytes, each with its place, the count of consumed bytes, text and
+-- destination; `linksOf` (crates/parse/specs) are the answers that reading a document gives, one after the other, unreported blocks not among
+-- them; `collectAll` is what these give: the collected links, the names with a destination and the aliases, after numbering. A collected
+-- link's goal is a label where its answer is Text2Label, and else its destination. `resolveAliases` gives the names that have a
+-- destination in the end, and `lookup` the destination of a name.
 -- Assumes nothing.
 use Prim.Native.Nat.{ℕ}
 use mathlib.Core.Path.{_≡_}
@@ -24,7 +26,7 @@ use Rattle.parse.specs.Links.{linksOf}
 use Rattle.iterator.specs.Collect.{Pair, Goal, destination, label, Item, Collection, collected, refused, collectAll, new}
 use Rattle.iterator.specs.Resolve.{Destination, has, none, lookup, resolveAliases, Hyperlink}
 use Rattle.iterator.specs.Document.{Verdict, verdictOf}
-use Rattle.iterator.specs.ReadBack.{linksIn}
+use Rattle.iterator.specs.ReadBack.{linksHeldIn}
 use Rattle.iterator.specs.Reach.{once}
 
 -- Bytes
@@ -61,8 +63,8 @@ endsWith b (c ∷ d ∷ s) = endsWith b (d ∷ s)
 -- What a document defines, and what it leaves unresolved
 
 -- what document s collects. One that is refused while it is collected is not accepted, and counts here as one that collects nothing.
-abbrev pub collectionOf : ℕ → List ℕ → Collection
-collectionOf render s = elim (collectAll render s (linksOf s)) [ collected c ↦ c | refused number ↦ new ]
+abbrev pub collectedBy : ℕ → List ℕ → Collection
+collectedBy render s = elim (collectAll render s (linksOf s)) [ collected c ↦ c | refused number ↦ new ]
 
 -- "A name is defined by each embedded named link and each reported destination or alias block, after numbering": the first two are the
 -- names with a destination, the third the aliases. Whether no name stands twice among them.
@@ -70,7 +72,7 @@ abbrev pub definesOnce : Collection → Bool
 definesOnce c = once (c .label2dest ++ c .label2label)
 
 abbrev pub definesNoNameTwice : ℕ → List ℕ → Bool
-definesNoNameTwice render s = definesOnce (collectionOf render s)
+definesNoNameTwice render s = definesOnce (collectedBy render s)
 
 -- "A reference is an answer Text2Label, known by its place; a document leaves it unresolved if it is collected and then dropped": the
 -- places of the links among these whose label has no destination
@@ -90,13 +92,13 @@ abbrev pub unresolvedOf : Collection → List ℕ
 unresolvedOf c = droppedIn (resolveAliases (c .label2label) (c .label2dest)) (c .links)
 
 abbrev pub unresolved : ℕ → List ℕ → List ℕ
-unresolved render s = unresolvedOf (collectionOf render s)
+unresolved render s = unresolvedOf (collectedBy render s)
 
 -- The links of a call
 
 -- "its links are those that their records hold": the records are the first `bytes` bytes of the output
 abbrev pub linksHeld : Verdict → List Hyperlink
-linksHeld v = linksIn (take (v .bytes) (v .output))
+linksHeld v = linksHeldIn (take (v .bytes) (v .output))
 
 -- "a link starts in the tail if its place is past the joining line feed", which stands at place n, the length of the first document
 abbrev pub startsInTail : ℕ → Hyperlink → Bool
@@ -111,8 +113,8 @@ remaining n places (x ∷ rest) =
       | false ↦ x ∷ remaining n places rest
     ]
 
--- "each alike in place, consumed part, text and destination": the consumed part are "the bytes counted from there as consumed", and how many
--- the record says
+-- "each alike in place, consumed part, text and destination": the consumed part is "the bytes counted from there as consumed"; `consumed` is
+-- how many, as the record says
 pub record Seen : Type 0 where
   pub place : ℕ
   pub consumed : ℕ

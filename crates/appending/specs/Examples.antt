@@ -124,12 +124,12 @@ breaking p before after = record { accepted = true; breaks = p ∷ []; before = 
 
 abbrev pub needed : List Case
 needed =
-    -- a carriage return ends a further line: with a line feed behind it that line belongs to the block
+    -- a carriage return alone in a further line ends the block before that line; with a line feed behind it the line belongs to the block
     example 0 "a_\n.. _a: u\n   v\r" ""
     ⟶ breaking no-carriage-return (link 0 "a_" "a" "u" ∷ []) (link 0 "a_" "a" "uv" ∷ [])
     -- a backtick in the tail closes one that was open, and what was a reference is text between the two
     ∷ example 0 "` a_\n.. _a: u" "`_" ⟶ breaking no-backtick (link 2 "a_" "a" "u" ∷ []) []
-    -- a tail that begins with spaces, or with the tab that a block begins with, is a further line of that block
+    -- a tail that begins with three spaces, or with the tab that a block begins with and three spaces, is a further line of that block
     ∷ example 0 "a_\n.. _a: u" "   v" ⟶ breaking no-blank (link 0 "a_" "a" "u" ∷ []) (link 0 "a_" "a" "uv" ∷ [])
     ∷ example 0 "a_\n\t.. _a: u" "\t   v" ⟶ breaking no-blank (link 0 "a_" "a" "u" ∷ []) (link 0 "a_" "a" "uv" ∷ [])
     -- a name that the tail defines again gets its later destination

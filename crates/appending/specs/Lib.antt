@@ -2,7 +2,10 @@
 -- promises it. Examples has pairs of documents that show that the claim is not empty and that each premise is needed;
 -- proofs/ExamplesHold.antt computes them.
 --
--- The proof, in the order of its argument: RemainingLaws appended-keeps says it of what the two documents collect, from the layers' laws
--- on appended text; Theorem appending-keeps says it of the records that two calls leave.
+-- The proof, in the order of its argument (docs/ARCHITECTURE.md tells it): the links of the longer text are those of the first and then some
+-- that start in the tail (parse, AppendingLaws links-lf, from the parsers' laws); so it is with what is collected (iterator, AppendingLaws
+-- collected-lf), and what was resolved stays (OnceLaws resolved-grows); hence the links of what is collected are kept (RemainingLaws
+-- appended-keeps); the records of an accepted call hold these (iterator, AcceptedLaws accepted-held), which is the theorem (Theorem
+-- appending-keeps).
 pub mod Claim
 pub mod Examples

@@ -14,6 +14,9 @@ pub struct Both {
 
 // Two documents, read with the same option, each call with work areas and an output of its own. The answers are those of the document
 // call; and where both documents are accepted and the second is the first, one line feed and a tail, the links of the first are kept.
+//
+// `documentOf` is the document call's definition: what is returned, the output and both work areas, by what was lent. `verdict` is what a
+// call returned, with its output as it was left; `answerOf` adds both work areas. `.entry` is before the calls, `.exit` after them.
 pub fn append_keeps(
     first: &[u8],
     second: &[u8],

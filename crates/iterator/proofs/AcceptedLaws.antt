@@ -20,7 +20,7 @@ use Rattle.iterator.specs.Collect.{Collected, collected, refused, collec
 use Rattle.iterator.specs.Resolve.{hyperlinksOf}
 use Rattle.iterator.specs.Records.{recordsOf}
 use Rattle.iterator.specs.Document.{Verdict, refusal, numbersMin, bytesMin, answered, verdictOf}
-use Rattle.iterator.specs.ReadBack.{linksIn}
+use Rattle.iterator.specs.ReadBack.{linksHeldIn}
 use Rattle.iterator.specs.Laws.{Accepted}
 use Rattle.iterator.proofs.OrderLaws.{refused-number, collected-standing}
 use Rattle.iterator.proofs.ReadBackLaws.{links-held}
@@ -67,7 +67,7 @@ module _ (render : ℕ) (s o : List ℕ) where
 -- the links that its records hold are those of what it collects
 pub accepted-held :
     (render : ℕ) (s : List ℕ) (v : Verdict) (a : Accepted render s v)
-    → linksIn (take (v .bytes) (v .output)) ≡ hyperlinksOf (a .collection)
+    → linksHeldIn (take (v .bytes) (v .output)) ≡ hyperlinksOf (a .collection)
 accepted-held render s v a =
-    ap linksIn (a .records)
+    ap linksHeldIn (a .records)
     ∙ links-held (hyperlinksOf (a .collection)) (length s) (omega (arith, a .short)) (collected-standing render s (a .collection) (a .collects))

@@ -19,13 +19,13 @@ use Rattle.iterator.specs.ReadBack.{
   linkAtFront,
   afterFront,
   linksRead,
-  linksIn,
+  linksHeldIn,
 }
 use Rattle.iterator.specs.Laws.{Standing}
 use Rattle.iterator.proofs.RecordLaws.{record-length}
 
 -- the number of eight bytes is the one that was written
-pub word-back : (v : ℕ) (rest : List ℕ) → wordAt (bytes8 v ++ rest) ≡ v
+word-back : (v : ℕ) (rest : List ℕ) → wordAt (bytes8 v ++ rest) ≡ v
 word-back v rest =
     omega (
       arith,
@@ -39,16 +39,16 @@ word-back v rest =
 
 -- its fields are those that were written, and the four bits after them are zero
 module _ (a b c d : ℕ) (h : Fields a b c d) where
-  pub skipped-back : skippedOf (wordOf a b c d) ≡ a
+  skipped-back : skippedOf (wordOf a b c d) ≡ a
   skipped-back = omega arith
 
-  pub consumed-back : consumedOf (wordOf a b c d) ≡ b
+  consumed-back : consumedOf (wordOf a b c d) ≡ b
   consumed-back = omega arith
 
-  pub text-len-back : textLenOf (wordOf a b c d) ≡ c
+  text-len-back : textLenOf (wordOf a b c d) ≡ c
   text-len-back = omega arith
 
-  pub dest-len-back : destLenOf (wordOf a b c d) ≡ d
+  dest-len-back : destLenOf (wordOf a b c d) ≡ d
   dest-len-back = omega arith
 
   pub spare-bits : wordOf a b c d % 16 ≡ 0
@@ -76,7 +76,7 @@ module _ (n : ℕ) (x : Hyperlink) (rest : List ℕ) (order : n ≤ x .place)
       ∙ drop-at (x .text) (x .dest ++ rest) k (sym e)
 
   -- the record of link x reads as x
-  pub link-back : linkAtFront n (recordOf n x ++ rest) ≡ x
+  link-back : linkAtFront n (recordOf n x ++ rest) ≡ x
   link-back =
       λ j. record {
         place = place-back j;
@@ -88,7 +88,7 @@ module _ (n : ℕ) (x : Hyperlink) (rest : List ℕ) (order : n ≤ x .place)
       }
 
   -- and what follows it is left
-  pub after-back : afterFront (recordOf n x ++ rest) ≡ rest
+  after-back : afterFront (recordOf n x ++ rest) ≡ rest
   after-back =
       sym (drop-drop (destLenOf (wordAt (recordOf n x ++ rest))) (8 + textLenOf (wordAt (recordOf n x ++ rest))) (recordOf n x ++ rest))
       ∙ ap (drop (destLenOf (wordAt (recordOf n x ++ rest)))) (dest-front _ text-len)
@@ -126,5 +126,5 @@ links-back (x ∷ links) (suc k) n m h l w =
     ∷ linksRead k (link-back n x more (w .0) f j .place + link-back n x more (w .0) f j .consumed) (after-back n x more (w .0) f j))
     ∙ ap (λ (l : List Hyperlink). x ∷ l) (links-back links k (x .place + x .consumed) m h (omega arith) (w .3))
 
-pub links-held : (links : List Hyperlink) (m : ℕ) → m < 32768 → Standing 0 m links → linksIn (recordsOf links) ≡ links
+pub links-held : (links : List Hyperlink) (m : ℕ) → m < 32768 → Standing 0 m links → linksHeldIn (recordsOf links) ≡ links
 links-held links m h w = links-back links (length (recordsOf links)) 0 m h (records-many links 0) w

@@ -12,11 +12,12 @@ use Rattle.iterator.specs.Resolve.{Hyperlink, hyperlinksOf}
 use Rattle.iterator.specs.Records.{recordsOf}
 use Rattle.iterator.specs.Document.{Verdict}
 
--- a collected link of at least one byte, whose strings are no longer than what it consumed
+-- a destination is no longer than n; of a label nothing is said
 abbrev pub GoalMeasured : ℕ → Goal → Type 0
 GoalMeasured n (destination d) = length d ≤ n
 GoalMeasured n (label name) = Unit {0}
 
+-- a collected link of at least one byte, whose text is no longer than what it consumed, nor is its destination if it has one
 abbrev pub Measured : Item → Type 0
 Measured x = (0 < x .consumed) × (length (x .text) ≤ x .consumed) × GoalMeasured (x .consumed) (x .goal)
 

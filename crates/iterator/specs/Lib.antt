@@ -9,7 +9,8 @@
 --
 -- Laws, proved in the file of proofs/ that is named, for the layers above; ReadBack, Laws and Reach define what they speak of:
 --   in order           OrderLaws collected-apart, collected-standing: each link starts at or after the end of the one before, all end
---                      within the document, and no string is longer than it; collected-in-order: the same of the order alone
+--                      within the document, and no string is longer than it; collected-in-order: the same of the order alone;
+--                      items-end, ReadBackLaws standing-end: such a list ends not before it starts
 --   sizes              RecordLaws records-size: the records take 8 bytes a link and its strings
 --   reading back       ReadBackLaws links-held: the records of links in order, with fields of 15 bits, hold those links; spare-bits:
 --                      the four bits behind the fields are zero
@@ -25,7 +26,8 @@
 --                      the target of an alias that is left over has none. OnceLaws unique: a name reaches one only, where no name is
 --                      defined twice; resolved-grows: then more names and aliases leave what was resolved as it was
 --   appending          on s ++ 10 ∷ t, for `Tail t` and `Body s`: AppendingLaws collect-lf, collected-lf: the document collects what s
---                      does and then what the links past the LF add. What that says of two calls is the crate `appending`.
+--                      does and then what the links past the LF add; part-append: bytes within s are the same with more behind it.
+--                      What that says of two calls is the crate `appending`.
 pub mod Collect
 pub mod Resolve
 pub mod Records

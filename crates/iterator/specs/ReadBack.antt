@@ -52,5 +52,5 @@ linksRead (suc k) n (b ∷ s) =
     linkAtFront n (b ∷ s) ∷ linksRead k (linkAtFront n (b ∷ s) .place + linkAtFront n (b ∷ s) .consumed) (afterFront (b ∷ s))
 
 -- the links that records hold: all of them, since a record has eight bytes or more
-abbrev pub linksIn : List ℕ → List Hyperlink
-linksIn s = linksRead (length s) 0 s
+abbrev pub linksHeldIn : List ℕ → List Hyperlink
+linksHeldIn s = linksRead (length s) 0 s

@@ -12,6 +12,7 @@ use crate::inputs::sequences;
 use crate::pairs::{self, Known, Short};
 use crate::pairs_met::PairsMet;
 use crate::test::Count;
+use driver::document::Shown;
 use driver::random::Random;
 use driver::show;
 
@@ -80,24 +81,21 @@ impl Pair {
             "    render {render}, first {first}, tail {tail}"
         ));
         if let Some((first, second)) = self.read(reader) {
-            let before = lines(&first, &first.links[render]);
-            let after = lines(&first, &second.links[render]);
+            let before = lines(&first.links[render], |links| links.iter().collect());
+            let after = lines(&second.links[render], |links| remaining(&first, links));
             count.say(format_args!("      links {before}"));
             count.say(format_args!("      remaining {after}"));
         }
     }
 }
 
-/// What remains of links, beside a first.
-fn lines(first: &Read, links: &Links) -> String {
+/// Those of the links that are kept, as a line.
+fn lines(links: &Links, kept: impl Fn(&[Shown]) -> Vec<&Shown>) -> String {
     let Links::Held(links) = links else {
         return "that cannot be read".to_string();
     };
-    let remaining: Vec<String> = remaining(first, links)
-        .into_iter()
-        .map(show::link)
-        .collect();
-    format!("{}: {}", remaining.len(), remaining.join("; "))
+    let lines: Vec<String> = kept(links).into_iter().map(show::link).collect();
+    format!("{}: {}", lines.len(), lines.join("; "))
 }
 
 /// The texts that lack one character of this one.
