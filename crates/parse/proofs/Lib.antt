@@ -5,6 +5,7 @@ pub mod AppendingLaws
 pub mod FormsLaws
 pub mod BacktickLaws
 pub mod RoundLaws
+pub mod CalmLaws
 pub mod SingleLaws
 pub mod SizeLaws
 mod CasesHold

@@ -98,7 +98,7 @@ pub is-scanned : {r x : Scan} → r ≡ x → (d : List ℕ) → scannedOf x d �
 is-scanned e d = ap (λ (y : Scan). scannedOf y d) (sym e)
 
 -- What was looked for first, z, stands behind i bytes of the text: it ends the scan if it is a link, else r is what comes.
-abbrev orGo : Scanned → Round → Round
+abbrev pub orGo : Scanned → Round → Round
 orGo z r = elim z [ found k x y m n ↦ ends (found k x y m n) | nothing ↦ r | no-room ↦ ends no-room ]
 
 go-found : (i : ℕ) (z : Scanned) (r : Round) (x : Link) (d : List ℕ) → linkOf x d ≡ behind i z → ends (linkOf x d) ≡ later i (orGo z r)
@@ -221,7 +221,7 @@ pub passed-le : (s : List ℕ) (i j : ℕ) → i < length s → later i (passedO
 passed-le s i j h e = omega (arith, ap passOf (sym (passed-at s i h) ∙ e))
 
 -- (a) LFs, and then (b) to (f) behind them
-round-at : (start : Bool) (s : List ℕ) (i : ℕ) → let n = lfsOf (drop i s) in later i (roundOf rst start (drop i s)) ≡ later (i + n) (lineRound rst (start || ltb 0 n) (drop (i + n) s))
+pub round-at : (start : Bool) (s : List ℕ) (i : ℕ) → let n = lfsOf (drop i s) in later i (roundOf rst start (drop i s)) ≡ later (i + n) (lineRound rst (start || ltb 0 n) (drop (i + n) s))
 unfolding roundOf
 round-at start s i =
     let n = lfsOf (drop i s) in
@@ -242,7 +242,7 @@ module _ (line : Bool) (u : List ℕ) where
   blank-some m e = ap blanksThen e
 
 -- (c) blanks, and then (d) to (f) behind them
-blank-at : (line : Bool) (s : List ℕ) (a : ℕ) → let m = space0Of (drop a s) in later a (blankRound rst line (drop a s)) ≡ later (a + m) (textRound rst (line || ltb 0 m) (drop (a + m) s))
+pub blank-at : (line : Bool) (s : List ℕ) (a : ℕ) → let m = space0Of (drop a s) in later a (blankRound rst line (drop a s)) ≡ later (a + m) (textRound rst (line || ltb 0 m) (drop (a + m) s))
 blank-at line s a = go (eqb m 0) refl
   where
     m : ℕ

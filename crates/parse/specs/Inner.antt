@@ -1,11 +1,13 @@
--- What the contracts of private functions speak of: a round's answer with the place that comes next; what is known of backticks; how
--- two strings are handed over.
+-- What the contracts of private functions speak of: a round's answer with the place that comes next; what is known of backticks; text
+-- without links; how two strings are handed over.
 -- Assumes nothing.
-use Prim.Native.Nat.{ℕ, _+_, _<_, _≤_}
+use Prim.Native.Nat.{ℕ, _+_, _-_, _<_, _≤_}
 use mathlib.Core.Path.{_≡_}
 use mathlib.Core.List.{List}
-use mathlib.Core.Bool.{Bool}
-use lib.ListN.{drop, getD}
+use mathlib.Core.Bool.{Bool, true, false}
+use mathlib.Core.Logic.{_⊎_}
+use lib.ListN.{length, drop, getD}
+use Rattle.rst_bytes.specs.Escaped.{isStop}
 use Rattle.rst_bytes.specs.declared.Part.the-variants.{Refused}
 use Rattle.restructured_text.specs.Delimited.{backtickedOf}
 use Rattle.parse.specs.declared.rounds.Step.{Step}
@@ -15,7 +17,8 @@ use Rattle.parse.specs.declared.Link.the-variants.{Text2Dest, TextLabel2
 use Rattle.parse.specs.declared.buffers.Handed.{Handed}
 use Rattle.parse.specs.declared.buffers.Handed.the-variants.{Both, TooShort}
 use Rattle.parse.specs.Link.{Kind, found, scannedOf, Ends}
-use Rattle.parse.specs.Scan.{Round, ends, passes}
+use Rattle.parse.specs.Forms.{rst}
+use Rattle.parse.specs.Scan.{Round, ends, passes, isPlain, rounds}
 use Rattle.parse.specs.Single.{Outcome, refusal, acceptance, handed}
 
 -- from place m on and before place n of s no backtick begins a part that is closed by `_
@@ -35,6 +38,18 @@ StepEnds (Passes next shut) = Unit {0}
 abbrev pub StepShut : List ℕ → Step → Type 0
 StepShut s (Stops x) = Unit {0}
 StepShut s (Passes next shut) = Shut next shut s
+
+-- from place i on and before place j of s no byte is _ or a backtick
+abbrev pub Calm : ℕ → ℕ → List ℕ → Type 0
+Calm i j s = (k : ℕ) → i ≤ k → k < j → isStop 0x5F 0x60 (getD s k 0) ≡ false
+
+-- s ends at place j; or LF stands there, behind a byte that (f) passes
+abbrev pub Edge : ℕ → List ℕ → Type 0
+Edge j s = (length s ≡ j) ⊎ ((j < length s) × (0 < j) × (isPlain (getD s (j - 1) 0) ≡ true) × (getD s j 0 ≡ 10))
+
+-- the rounds from place i on of s are those from place j on
+abbrev pub Skips : ℕ → ℕ → List ℕ → Type 0
+Skips i j s = (i ≤ j) × (j ≤ length s) × (i < j → (start : Bool) → rounds rst 0 start i (drop i s) ≡ rounds rst 0 false j (drop j s))
 
 -- both strings end within the first n bytes of the scratch
 abbrev pub LinkWithin : ℕ → Link → Type 0

@@ -4,11 +4,13 @@
 // its caller and always returns; its contract is an equation with a definition of specs/.
 mod backtick;
 mod buffers;
+mod calm;
 mod forms;
 mod rounds;
 
 use crate::buffers::hand_over;
 use crate::buffers::is_place;
+use crate::calm::calm;
 use crate::rounds::Step;
 use crate::rounds::round;
 use restructured_text::Span;
@@ -62,7 +64,15 @@ pub fn take_link(s: &[u8], scratch: &mut [u8]) -> Scan
     let mut i = 0;
     let mut input_start = true;
     let mut shut = 0;
+    let mut looked = 0;
     while i < s.len() {
+        let ahead = calm(s, i, looked);
+        looked = ahead.looked;
+        if i < ahead.next {
+            i = ahead.next;
+            input_start = false;
+            continue;
+        }
         match round(s, i, scratch, input_start, shut) {
             Step::Stops(x) => {
                 return x;

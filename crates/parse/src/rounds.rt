@@ -122,7 +122,7 @@ fn inline_at(s: &[u8], i: usize, scratch: &mut [u8], spaced: bool) -> Scan
 }
 
 // (f) One of the bytes at which a link may start.
-fn is_start(b: u8) -> bool
+pub fn is_start(b: u8) -> bool
     ensures { λ r. ⌜ r ≡ isStart b ⌝ }
 {
     b == b'\n'

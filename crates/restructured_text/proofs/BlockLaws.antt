@@ -52,22 +52,26 @@ module _ (s : List ℕ) (a : ℕ) (is : a ≡ space0Of s) where
 
 -- The start is the indent and the header, and is within the text.
 abbrev StartIn : List ℕ → List ℕ → Part → Type 0
-StartIn header s (Taken a) = (a ≡ space0Of s + length header) × (a ≤ length s)
+StartIn header s (Taken a) =
+    (a ≡ space0Of s + length header) × (a ≤ length s) × (startsWith header (drop (space0Of s) s) ≡ true)
 StartIn header s Refused = Unit {0}
 
 start-in : (header s : List ℕ) → StartIn header s (startOf header s)
 unfolding startOf
 start-in header s =
     by-test (StartIn header s) (startsWith header (drop (space0Of s) s)) _ _
-    (λ e. (refl, omega (arith, starts-le header (drop (space0Of s) s) e, length-drop (space0Of s) s, space0-le s)))
+    (λ e. (refl, omega (arith, starts-le header (drop (space0Of s) s) e, length-drop (space0Of s) s, space0-le s), e))
     (λ e. tt)
 
 module _ (header s : List ℕ) (a : ℕ) (e : startOf header s ≡ Taken a) where
-  start-is : a ≡ space0Of s + length header
+  pub start-is : a ≡ space0Of s + length header
   start-is = subst (StartIn header s) e (start-in header s) .0
 
   pub start-le : a ≤ length s
   start-le = subst (StartIn header s) e (start-in header s) .1
+
+  pub start-begins : startsWith header (drop (space0Of s) s) ≡ true
+  start-begins = subst (StartIn header s) e (start-in header s) .2
 
 -- What is cut before a further line.
 
@@ -248,13 +252,13 @@ block-none header s e = simp (e, blockOf)
 -- behind a start of a bytes
 module _ (header s : List ℕ) (a : ℕ) (e : startOf header s ≡ Taken a) where
   -- a CR without LF in the first line
-  refused : notLineEndingOf (drop a s) ≡ Refused → blockOf header s ≡ no-block
+  pub block-no-line : notLineEndingOf (drop a s) ≡ Refused → blockOf header s ≡ no-block
   unfolding blockOf
-  refused f = simp (e, f, blockOf)
+  block-no-line f = simp (e, f, blockOf)
 
   -- the same, as the code has it
   pub block-refused : notLineEndingOf (from s a) ≡ Refused → blockOf header s ≡ no-block
-  block-refused f = refused (rw part-from at f)
+  block-refused f = block-no-line (rw part-from at f)
 
   -- a first line
   pub block-taken : (n : ℕ) → notLineEndingOf (drop a s) ≡ Taken n → blockOf header s ≡ withLines a s n (linesOf (take (space0Of s) s) 0 (drop n (drop a s)))
@@ -288,7 +292,7 @@ block-in header s = go (startOf header s) refl
 
     line : (a : ℕ) → startOf header s ≡ Taken a → (y : Part) → notLineEndingOf (drop a s) ≡ y → BlockIn header s (blockOf header s)
     line a e (Taken n) f = rw (block-taken header s a e n f) (first a n _ e (not-line-ending-le (drop a s) n f) (lines-size _ _) (lines-le _ _))
-    line a e Refused f = rw (refused header s a e f) tt
+    line a e Refused f = rw (block-no-line header s a e f) tt
 
     go : (x : Part) → startOf header s ≡ x → BlockIn header s (blockOf header s)
     go (Taken a) e = line a e (notLineEndingOf (drop a s)) refl
@@ -414,8 +418,8 @@ module _ (header s t : List ℕ) (h : free 10 10 header ≡ true) (g : Tail t) (
           ∙ ap (λ (l : List ℕ). block (l ++ more .text) (a + n + more .read)) (text-lf s t a n a-le n-le)
           ∙ sym (block-taken header s a e n f)
       line a e Refused f =
-          refused header (s ++ 10 ∷ t) a (start-lf header s t h ∙ e) (line-lf s t a (start-le header s a e) b ∙ f)
-          ∙ sym (refused header s a e f)
+          block-no-line header (s ++ 10 ∷ t) a (start-lf header s t h ∙ e) (line-lf s t a (start-le header s a e) b ∙ f)
+          ∙ sym (block-no-line header s a e f)
 
       go : (x : Part) → startOf header s ≡ x → blockOf header (s ++ 10 ∷ t) ≡ blockOf header s
       go (Taken a) e = line a e (notLineEndingOf (drop a s)) refl

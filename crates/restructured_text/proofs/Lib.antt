@@ -9,4 +9,5 @@ pub mod InlineLaws
 pub mod JoinLaws
 pub mod BlockLaws
 pub mod TargetLaws
+pub mod CalmLaws
 mod Cases

@@ -1,18 +1,20 @@
 -- The laws of `specs/Target.antt`: names, targets and blocks by the code's tests; where name and target stand; how much a target
 -- block consumes; that none is both an alias and a destination; and that LF and a tail behind the input change nothing.
 -- Assumes nothing.
-use Prim.Native.Nat.{ℕ, _+_, _<_, _≤_}
+use Prim.Native.Nat.{ℕ, zero, suc, _+_, _<_, _≤_}
 use native.Mathlib.Omega.{arith}
 use mathlib.Core.Path.{_≡_, refl, sym, ap, subst, subst⁻¹, _∙_}
 use mathlib.Core.List.{List, [], _∷_, _++_}
-use mathlib.Core.Bool.{Bool, true, false, false≢true}
+use mathlib.Core.Bool.{Bool, true, false, _&&_, _||_, false≢true, true≢false}
 use mathlib.Core.Logic.{_⊎_, inl, inr, ⊎-elim}
 use lib.ListN.{length, drop, take, set, length-take, length-drop}
-use lib.Seq.{take-length}
+use lib.Seq.{take-length, drop-drop}
 use borrow.Author.Tests.{lt-ltb, le-ltb}
 use borrow.Rule.Slice.PartMut.{midOf, putMid}
 use Rattle.rst_bytes.specs.Appending.{free, Body, Tail}
 use Rattle.rst_bytes.specs.Escaped.{isStop}
+use Rattle.rst_bytes.specs.Line.{notLineEndingOf, space0Of}
+use Rattle.rst_bytes.specs.Tag.{startsWith}
 use Rattle.rst_bytes.specs.declared.Part.{Part}
 use Rattle.rst_bytes.specs.declared.Part.the-variants.{Taken, Refused}
 use Rattle.restructured_text.specs.declared.Span.{Span}
@@ -25,22 +27,26 @@ use Rattle.restructured_text.specs.declared.target.Name.{Name}
 use Rattle.restructured_text.specs.declared.target.Name.the-variants.{Is, NoName}
 use Rattle.restructured_text.specs.declared.target.Rest.{Rest}
 use Rattle.restructured_text.specs.declared.target.Rest.the-variants.{Target, NoTarget}
+use Rattle.restructured_text.specs.declared.block.Line.{Line}
+use Rattle.restructured_text.specs.declared.block.Line.the-variants.{Further, End}
 use Rattle.restructured_text.specs.declared.block.Block.{Block}
 use Rattle.restructured_text.specs.declared.block.Block.the-variants.{Joined, NoBlock, NoScratch}
 use Rattle.restructured_text.specs.declared.transform.Transformed.the-variants.{Text, Wrong}
 use Rattle.restructured_text.specs.Delimited.{delimitedOf}
 use Rattle.restructured_text.specs.Label.{simpleLabelOf}
-use Rattle.restructured_text.specs.Block.{BlockText, block, no-block, no-scratch, blockOf, blockIn, lentBlock}
+use Rattle.restructured_text.specs.Block.{startOf, furtherOf, linesOf, BlockText, block, no-block, no-scratch, withLines, blockOf, blockIn, lentBlock}
 use Rattle.restructured_text.specs.Transform.{Given, whole, refused, textOf, destinationOf, answerOf, bytesOf, over}
 use Rattle.restructured_text.specs.Strings.{Link, link, none, no-room, part, paired, linked, lent}
-use Rattle.restructured_text.specs.Target.{plainNameOf, nameOf, labelIn, restOf, isNamed, excluded, behindName, parseLabel2targetOf, namedIn, namedOf, anonymousIn, anonymousOf, anonymousBlockOf, label2targetOf, label2destOf, label2labelOf}
+use Rattle.restructured_text.specs.Target.{plainNameOf, nameOf, labelIn, restOf, isNamed, excluded, behindName, parseLabel2targetOf, namedIn, namedOf, anonymousIn, anonymousOf, anonymousBlockOf, label2targetOf, label2destOf, label2labelOf, startsTarget}
+use Rattle.rst_bytes.proofs.Lists.{part-from}
 use Rattle.rst_bytes.proofs.TestLaws.{lt-or-le}
-use Rattle.restructured_text.proofs.DelimitedLaws.{delimited-within}
+use Rattle.rst_bytes.proofs.TagLaws.{starts-append}
+use Rattle.restructured_text.proofs.DelimitedLaws.{delimited-none, delimited-within}
 use Rattle.restructured_text.proofs.LabelLaws.{Standing, simple-standing}
 use Rattle.restructured_text.proofs.TransformLaws.{answer-part, answer-refused, text-le, destination-le}
 use Rattle.restructured_text.proofs.PartLaws.{part-length, part-front, put-here, put-length, set-here, set-before}
 use Rattle.restructured_text.proofs.Text2targetLaws.{Apart}
-use Rattle.restructured_text.proofs.BlockLaws.{lent-short, lent-enough, block-consumed, block-scratch, block-lf}
+use Rattle.restructured_text.proofs.BlockLaws.{from, start-is, start-begins, lines-end, lines-further, block-none, block-no-line, block-taken, lent-short, lent-enough, block-consumed, block-scratch, block-lf}
 use Rattle.restructured_text.proofs.StringsLaws.{reach}
 
 -- A name, by the code's tests: in backticks, else plain.
@@ -521,3 +527,81 @@ module _ (s t : List ℕ) (h : Tail t) (b : Body s) where
   pub label2label-lf : label2labelOf (s ++ 10 ∷ t) ≡ label2labelOf s
   unfolding label2labelOf
   label2label-lf = label2target-lf true
+
+-- Where a target starts, by the code's tests: a bytes are the indent, and v is what stands behind it.
+module _ (s v : List ℕ) (a : ℕ) (is : a ≡ space0Of s) (iv : v ≡ from s a) where
+  behind-indent : v ≡ drop (space0Of s) s
+  behind-indent = iv ∙ part-from s a ∙ ap (λ (n : ℕ). drop n s) is
+
+  pub starts-named : startsWith (0x2E ∷ 0x2E ∷ 0x20 ∷ 0x5F ∷ []) v ≡ true → startsTarget s ≡ true
+  unfolding startsTarget
+  starts-named e =
+      ap (λ (b : Bool). b || startsWith strokes (drop (space0Of s) s)) (sym (ap (startsWith (0x2E ∷ 0x2E ∷ 0x20 ∷ 0x5F ∷ [])) behind-indent) ∙ e)
+
+  pub starts-anonymous : startsWith (0x2E ∷ 0x2E ∷ 0x20 ∷ 0x5F ∷ []) v ≡ false → startsTarget s ≡ startsWith strokes v
+  unfolding startsTarget
+  starts-anonymous e =
+      ap (λ (b : Bool). b || startsWith strokes (drop (space0Of s) s)) (sym (ap (startsWith (0x2E ∷ 0x2E ∷ 0x20 ∷ 0x5F ∷ [])) behind-indent) ∙ e)
+      ∙ ap (startsWith strokes) (sym behind-indent)
+
+-- Where no target starts there is none: the text of a `.. ` block begins with what stands behind that header, or with the space before
+-- its second line.
+first-other : (v w : List ℕ) (n : ℕ) → startsWith (0x5F ∷ []) v ≡ false → startsWith (0x5F ∷ []) w ≡ false → startsWith (0x5F ∷ []) (take n v ++ w) ≡ false
+unfolding startsWith
+first-other v w zero e f = f
+first-other [] w (suc n) e f = f
+first-other (b ∷ v) w (suc n) e f = e
+
+lines-other : (indent s : List ℕ) → startsWith (0x5F ∷ []) (linesOf indent 0 s .text) ≡ false
+unfolding startsWith
+lines-other indent s = go (furtherOf indent s) refl
+  where
+    go : (x : Line) → furtherOf indent s ≡ x → startsWith (0x5F ∷ []) (linesOf indent 0 s .text) ≡ false
+    go (Further a n) e = rw (lines-further indent s a n e) refl
+    go End e = rw (lines-end indent s e) refl
+
+-- a text that does not begin with '_' has no name
+other-none : (label : Bool) (text : List ℕ) (n : ℕ) → startsWith (0x5F ∷ []) text ≡ false → namedOf label text n ≡ none
+other-none label text n e =
+    named-none label text n
+    (parse-none label text
+    (name-plain text (delimited-none _ 0x60 0x60 _ text (starts-append (0x5F ∷ []) (0x60 ∷ []) text ∙ ap (λ (b : Bool). b && startsWith (0x60 ∷ []) (drop 1 text)) e))
+    ∙ plain-none text (delimited-none _ 0x3A 0x3A _ text e)))
+
+neither : (a b : Bool) → (a || b) ≡ false → (a ≡ false) × (b ≡ false)
+neither false b e = (refl, e)
+neither true b e = absurd (true≢false e)
+
+module _ (label : Bool) (s : List ℕ) (e : startsTarget s ≡ false) where
+  start : List ℕ
+  start = drop (space0Of s) s
+
+  no-strokes : blockOf strokes s ≡ no-block
+  unfolding startsTarget startOf
+  no-strokes =
+      let f = neither (startsWith (0x2E ∷ 0x2E ∷ 0x20 ∷ 0x5F ∷ []) (drop (space0Of s) s)) (startsWith strokes (drop (space0Of s) s)) e .1 in
+      block-none strokes s (simp (f, startOf))
+
+  no-name : startsWith dots start ≡ true → startsWith (0x5F ∷ []) (drop 3 start) ≡ false
+  unfolding startsTarget start
+  no-name f = sym (ap (λ (b : Bool). b && startsWith (0x5F ∷ []) (drop 3 start)) f) ∙ sym (starts-append dots (0x5F ∷ []) start) ∙ neither (startsWith (0x2E ∷ 0x2E ∷ 0x20 ∷ 0x5F ∷ []) (drop (space0Of s) s)) (startsWith strokes (drop (space0Of s) s)) e .0
+
+  no-dots : targetIn label (blockOf dots s) no-block ≡ none
+  unfolding start
+  no-dots = go (startOf dots s) refl
+    where
+      go : (x : Part) → startOf dots s ≡ x → targetIn label (blockOf dots s) no-block ≡ none
+      go (Taken a) f = line (notLineEndingOf (drop a s)) refl
+        where
+          behind : startsWith (0x5F ∷ []) (drop a s) ≡ false
+          behind = ap (λ (n : ℕ). startsWith (0x5F ∷ []) (drop n s)) (start-is dots s a f) ∙ ap (startsWith (0x5F ∷ [])) (sym (drop-drop 3 (space0Of s) s)) ∙ no-name (start-begins dots s a f)
+
+          line : (y : Part) → notLineEndingOf (drop a s) ≡ y → targetIn label (blockOf dots s) no-block ≡ none
+          line (Taken n) g =
+              rw (block-taken dots s a f n g)
+              (other-none label _ _ (first-other (drop a s) _ n behind (lines-other (take (space0Of s) s) (drop n (drop a s)))))
+          line Refused g = rw (block-no-line dots s a f g) refl
+      go Refused f = rw (block-none dots s f) refl
+
+  pub no-target : label2targetOf label s ≡ none
+  no-target = sym (target-is label s) ∙ ap (targetIn label (blockOf dots s)) no-strokes ∙ no-dots

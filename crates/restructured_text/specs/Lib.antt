@@ -40,3 +40,4 @@ pub mod Strings
 pub mod Inline
 pub mod Block
 pub mod Target
+pub mod Calm

@@ -4,8 +4,10 @@
 -- Assumes nothing.
 use Prim.Native.Nat.{ℕ, _+_}
 use mathlib.Core.List.{List, [], _∷_}
-use mathlib.Core.Bool.{Bool, true, false}
+use mathlib.Core.Bool.{Bool, true, false, _||_}
 use lib.ListN.{length, drop}
+use Rattle.rst_bytes.specs.Line.{space0Of}
+use Rattle.rst_bytes.specs.Tag.{startsWith}
 use Rattle.rst_bytes.specs.declared.Part.the-variants.{Taken, Refused}
 use Rattle.restructured_text.specs.declared.Span.{Span}
 use Rattle.restructured_text.specs.declared.Spans.{Spans}
@@ -107,3 +109,9 @@ label2destOf s = label2targetOf false s
 -- `rst_label2label`
 unfoldable pub label2labelOf : List ℕ → Link
 label2labelOf s = label2targetOf true s
+
+-- What is looked at first: "`.. ` or `__ `" behind the indent, and in a `.. ` block the _ before a name. Where neither stands there is
+-- no target.
+unfoldable pub startsTarget : List ℕ → Bool
+startsTarget s =
+    startsWith (0x2E ∷ 0x2E ∷ 0x20 ∷ 0x5F ∷ []) (drop (space0Of s) s) || startsWith (0x5F ∷ 0x5F ∷ 0x20 ∷ []) (drop (space0Of s) s)

@@ -11,6 +11,8 @@ use crate::scratch::transformed;
 use crate::transform::Transformed;
 use crate::transform::rst_escaped_link_destination_transform;
 use rst_bytes::Part;
+use rst_bytes::line::space0;
+use rst_bytes::tag::tag;
 ghost use mathlib.Core.Path.{_≡_};
 ghost use Prim.Native.Nat.{_≤_, _<_};
 ghost use lib.ListN.{length, take};
@@ -26,6 +28,7 @@ ghost use Rattle.restructured_text.specs.Target.{
   label2targetOf,
   label2destOf,
   label2labelOf,
+  startsTarget,
 };
 
 // A name and how many bytes it takes with what stands around it, or that there is none.
@@ -166,8 +169,20 @@ fn anonymous_target(d: &mut [u8], label: bool, len: usize, n: usize) -> Strings
     }
 }
 
-// A target block with an alias, if `label`, or with a destination: its name and its target.
-pub fn rst_label2target(s: &[u8], scratch: &mut [u8], label: bool) -> Strings
+// Whether a target may start: behind the indent `.. _`, or `__ `.
+fn starts_target(s: &[u8]) -> bool
+    ensures { λ r. ⌜ r ≡ startsTarget (now (s .entry)) ⌝ }
+{
+    let a = space0(s);
+    let t = &s[a..];
+    if tag(t, b".. _") {
+        return true;
+    }
+    tag(t, b"__ ")
+}
+
+// A target block, whatever it starts with.
+fn block_target(s: &[u8], scratch: &mut [u8], label: bool) -> Strings
     ensures strings { λ r. ⌜ stringsOf r (now (scratch .exit)) ≡ lent (now (s .entry)) (now (scratch .entry)) (label2targetOf label (now (s .entry))) ⌝ }
     ensures ends { λ r. ⌜ Ends r ⌝ }
 {
@@ -180,6 +195,20 @@ pub fn rst_label2target(s: &[u8], scratch: &mut [u8], label: bool) -> Strings
         },
         Block::NoScratch => Strings::NoRoom,
     }
+}
+
+// A target block with an alias, if `label`, or with a destination: its name and its target. A block that is none is not read.
+pub fn rst_label2target(s: &[u8], scratch: &mut [u8], label: bool) -> Strings
+    ensures strings { λ r. ⌜ stringsOf r (now (scratch .exit)) ≡ lent (now (s .entry)) (now (scratch .entry)) (label2targetOf label (now (s .entry))) ⌝ }
+    ensures ends { λ r. ⌜ Ends r ⌝ }
+{
+    if starts_target(s) {
+        return block_target(s, scratch, label);
+    }
+    if scratch.len() < s.len() {
+        return Strings::NoRoom;
+    }
+    Strings::NotFound
 }
 
 // A block that gives a name a destination.

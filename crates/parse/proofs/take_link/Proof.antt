@@ -1,5 +1,5 @@
 -- `take_link` meets its contract. The loop's invariant: the scan from the front is that from i on, i bytes being skipped, and what is
--- known of backticks holds from i on. A round ends the scan, or passes some bytes: the measure is what is left.
+-- known of backticks holds from i on. Calm text is passed; a round ends the scan, or passes some bytes: the measure is what is left.
 -- Assumes nothing.
 use Prim.Native.Nat.{_-_, _≤_}
 use mathlib.Core.Path.{_≡_, refl, sym, subst, _∙_}
@@ -16,11 +16,11 @@ use Rattle.parse.proofs.take_link.Statement.{statement}
 use Rattle.parse.proofs.take_link.Tie as tie
 
 abbrev Inv-loop : tie.InvT-loop
-Inv-loop s scratch₀ i₀ input-start₀ shut₀ scratch i input-start shut =
+Inv-loop s scratch₀ i₀ input-start₀ shut₀ looked₀ scratch i input-start shut looked =
     (i ≤ length s) × (length scratch ≡ length scratch₀) × (scanOf s ≡ rounds rst 0 input-start i (drop i s)) × Shut i shut s
 
 abbrev μ-loop : tie.MeasureT-loop
-μ-loop s scratch₀ i₀ input-start₀ shut₀ scratch i input-start shut = length s - i
+μ-loop s scratch₀ i₀ input-start₀ shut₀ looked₀ scratch i input-start shut looked = length s - i
 
 returns : tie.Need-returns Inv-loop μ-loop
 returns c =
@@ -33,10 +33,22 @@ loop-holds c =
     let s = c .before .before .before .args .s .now in
     (omega arith, refl, refl, shut-none s 0 0 (omega arith))
 
+calm-requires : tie.Need-calm-requires Inv-loop μ-loop
+calm-requires c κs = search needs
+
+loop-less : tie.Need-loop-less Inv-loop μ-loop
+loop-less c = search needs
+
+loop-again : tie.Need-loop-again Inv-loop μ-loop
+loop-again c =
+    let l = c .before .before .before .before .loop in
+    let a = c .before .before .calm .ensures in
+    (a .1, l .inv .1, l .inv .2 ∙ a .2 (c .if2 .taken) (l .input-start), λ k d e f. l .inv .3 k (omega (arith, a .0, d)) e f)
+
 round-requires : tie.Need-round-requires Inv-loop μ-loop
 round-requires c κs =
-    let v = c .before .before .loop .inv in
-    ((v .0, omega (arith, v .1, c .before .before .before .if1 .left)), v .3)
+    let v = c .before .before .before .before .before .loop .inv in
+    ((v .0, omega (arith, v .1, c .before .before .before .before .before .before .if1 .left)), v .3)
 
 enum-known-x : tie.Need-enum-known-x Inv-loop μ-loop
 enum-known-x c = search needs
@@ -46,26 +58,26 @@ same-length c = search needs
 
 returns-2 : tie.Need-returns-2 Inv-loop μ-loop
 returns-2 c =
-    let w = c .before .before .before .before .before .before .before .before .before .before .before .before .args in
-    let l = c .before .before .before .before .before .before .before .before .loop in (
-      step-stops (l .input-start) (w .s .now) (l .i) (omega arith) (c .before .before .before .before .before .round .result) (c .before .before .before .before .before .round .last .1 .1 .0) (c .before .before .before .before .before .round .ensures .0) _ (c .before .x .given .1) ∙ sym (l .inv .2) ∙ lent-enough (w .s .now) (w .scratch .now) (scanOf (w .s .now)) (c .before .before .before .before .before .before .before .before .before .if1 .left),
+    let w = c .before .before .before .before .before .before .before .before .before .before .before .before .before .before .before .args in
+    let l = c .before .before .before .before .before .before .before .before .before .before .before .loop in (
+      step-stops (l .input-start) (w .s .now) (l .i) (omega arith) (c .before .before .before .before .before .round .result) (c .before .before .before .before .before .round .last .1 .1 .0) (c .before .before .before .before .before .round .ensures .0) _ (c .before .x .given .1) ∙ sym (l .inv .2) ∙ lent-enough (w .s .now) (w .scratch .now) (scanOf (w .s .now)) (c .before .before .before .before .before .before .before .before .before .before .before .before .if1 .left),
       subst StepEnds (c .before .x .given .1) (c .before .before .before .before .before .round .ensures .1 .0),
     )
 
 enum-known-next : tie.Need-enum-known-next Inv-loop μ-loop
 enum-known-next c = search needs
 
-loop-less : tie.Need-loop-less Inv-loop μ-loop
-loop-less c =
-    let w = c .before .before .before .before .before .before .before .before .before .before .before .before .args in
-    let l = c .before .before .before .before .before .before .before .before .loop in
+loop-less-2 : tie.Need-loop-less-2 Inv-loop μ-loop
+loop-less-2 c =
+    let w = c .before .before .before .before .before .before .before .before .before .before .before .before .before .before .before .args in
+    let l = c .before .before .before .before .before .before .before .before .before .before .before .loop in
     let p = step-passes (l .input-start) (w .s .now) (l .i) (omega arith) (c .before .before .before .before .before .round .result) (c .before .before .before .before .before .round .last .1 .1 .0) (c .before .before .before .before .before .round .ensures .0) _ _ (c .before .next .given .1) in
     omega (arith, p .1, p .2)
 
-loop-again : tie.Need-loop-again Inv-loop μ-loop
-loop-again c =
-    let w = c .before .before .before .before .before .before .before .before .before .before .before .before .args in
-    let l = c .before .before .before .before .before .before .before .before .loop in
+loop-again-2 : tie.Need-loop-again-2 Inv-loop μ-loop
+loop-again-2 c =
+    let w = c .before .before .before .before .before .before .before .before .before .before .before .before .before .before .before .args in
+    let l = c .before .before .before .before .before .before .before .before .before .before .before .loop in
     let p = step-passes (l .input-start) (w .s .now) (l .i) (omega arith) (c .before .before .before .before .before .round .result) (c .before .before .before .before .before .round .last .1 .1 .0) (c .before .before .before .before .before .round .ensures .0) _ _ (c .before .next .given .1) in (
       p .2,
       omega (arith, l .inv .1, c .before .before .before .before .scratch .given),
@@ -90,12 +102,15 @@ take-link-spec =
     μ-loop
     returns
     loop-holds
+    calm-requires
+    loop-less
+    loop-again
     round-requires
     enum-known-x
     same-length
     returns-2
     enum-known-next
-    loop-less
-    loop-again
+    loop-less-2
+    loop-again-2
     same-length-2
     returns-3)

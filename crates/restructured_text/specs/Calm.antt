@@ -1,0 +1,16 @@
+-- What the laws on text without links speak of: bytes before LF, or before the end of the text.
+-- Assumes nothing.
+use Prim.Native.Nat.{ℕ}
+use mathlib.Core.Path.{_≡_}
+use mathlib.Core.List.{List, [], _∷_}
+use mathlib.Core.Bool.{Bool}
+use Rattle.rst_bytes.specs.Appending.{free}
+
+-- no byte is _ or a backtick
+unfoldable pub calm : List ℕ → Bool
+calm s = free 0x5F 0x60 s
+
+-- nothing follows, or LF does
+abbrev pub Ended : List ℕ → Type 0
+Ended [] = Unit {0}
+Ended (b ∷ rest) = b ≡ 10
