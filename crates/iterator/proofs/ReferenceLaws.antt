@@ -143,8 +143,9 @@ module _ (n i destinations : ℕ) (s t w : List ℕ) (r : Resolved) (v : Resolvi
     keep-direct = can-keep more x row-within
 
     -- its label can be looked up
-    pub can-look : Lookable (x .goal) destinations t w
-    can-look = (v .roomy, (v .destinations-few, (row-within .1 .1, v .destinations-within)))
+    pub can-look : Lookable (x .goal) 0 destinations t w
+    unfolding lookup pairRows
+    can-look = (v .roomy, (v .destinations-few, (row-within .1 .1, (v .destinations-within, (omega arith, refl)))))
 
     items : itemsOf (n - i) (7 * i) s t w ≡ itemOf s w x ∷ itemsOf (n - (i + 1)) (7 * (i + 1)) s t w
     items = ap (map (itemOf s w)) rows

@@ -9,7 +9,7 @@ use mathlib.Core.Bool.{true, false}
 use lib.ListN.{length, take, drop, length-append, take-append-drop}
 use lib.Seq.{take-length, drop-length, take-append-le, drop-append-le}
 use Rattle.iterator.specs.Collect.{Pair, pair}
-use Rattle.iterator.specs.Resolve.{same, has, none, lookup, search, resolveFrom, resolveAliases}
+use Rattle.iterator.specs.Resolve.{same, Destination, has, none, lookup, search, resolveFrom, resolveAliases}
 use Rattle.iterator.specs.Inner.{resumed, goesOn}
 
 -- Looking up: the last that was stored is seen first
@@ -23,6 +23,19 @@ module _ (name : List ℕ) (x : Pair) where
   unfolding lookup
   lookup-past [] e = rw (e, lookup)
   lookup-past (y ∷ xs) e = rw (lookup-past xs e)
+
+-- what a name has with one pair before those in which it has d
+abbrev pub lookupPast : List ℕ → Pair → Destination → Destination
+lookupPast name x d = elim d [ has d ↦ has d | none ↦ elim (same (x .name) name) [ true ↦ has (x .to) | false ↦ none ] ]
+
+-- a name that has nothing has nothing behind the first pair
+pub none-behind : (name : List ℕ) (x : Pair) (xs : List Pair) → lookup name (x ∷ xs) ≡ none → lookup name xs ≡ none
+unfolding lookup
+none-behind name x xs e = past (lookup name xs) e
+  where
+    past : (d : Destination) → lookupPast name x d ≡ none → d ≡ none
+    past (has d) f = f
+    past none f = refl
 
 -- The walk: with the next alias x, those ahead of it, and those that were missed
 module _ (stored : List Pair) where

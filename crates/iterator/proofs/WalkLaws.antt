@@ -2,6 +2,7 @@
 -- the end.
 -- Assumes nothing.
 use Prim.Native.Nat.{ℕ, zero, suc, _+_, _-_, _*_, _<_, _≤_}
+use native.Mathlib.Nat.{not-suc-le-zero}
 use native.Mathlib.Omega.{arith}
 use mathlib.Core.Path.{_≡_, refl, ap, ap₂, sym, subst, subst⁻¹, _∙_}
 use mathlib.Core.List.{List, [], _∷_, _++_, map, append-assoc, append-nil}
@@ -40,6 +41,7 @@ use Rattle.iterator.specs.Inner.{
   queueOf,
   walkOf,
   wrap,
+  Without,
   Walking,
   Tryable,
   stepsLeft,
@@ -60,7 +62,7 @@ use Rattle.iterator.proofs.RowsLaws.{
   pair-small,
   map-snoc,
 }
-use Rattle.iterator.proofs.ResolveLaws.{lookup-here, lookup-past, goes-start, goes-stop, goes-miss, goes-hit}
+use Rattle.iterator.proofs.ResolveLaws.{lookup-here, lookup-past, lookupPast, none-behind, goes-start, goes-stop, goes-miss, goes-hit}
 
 pub length-pairs : (n a : ℕ) (t : List ℕ) → length (pairRows n a t) ≡ n
 unfolding pairRows
@@ -97,19 +99,61 @@ pub row-within :
     → PairsWithin room (pairRows n destinationsAt t) → PairWithin room r
 row-within n t i r h g e b = subst⁻¹ (PairWithin room) e (pairs-within-at room n destinationsAt (i - 1) t (omega arith) b)
 
--- nothing is stored
-pub row-none : (t w name : List ℕ) (i : ℕ) → i ≡ 0 → lookup name (pairsOf i destinationsAt t w) ≡ none
+-- a name that none of n rows has, none of the first m of them has
+none-fewer :
+    (w name : List ℕ) (m n a : ℕ) (t : List ℕ) → m ≤ n → lookup name (pairsOf n a t w) ≡ none
+    → lookup name (pairsOf m a t w) ≡ none
 unfolding lookup pairRows
-row-none t w name i e = rw e
+none-fewer w name zero n a t h e = refl
+none-fewer w name (suc m) zero a t h e = absurd (not-suc-le-zero h)
+none-fewer w name (suc m) (suc n) a t h e =
+    let f = none-behind name (pairOf w (pairAt t a)) (pairsOf n (a + 4) t w) e in
+    ap (lookupPast name (pairOf w (pairAt t a))) (none-fewer w name m n (a + 4) t (omega arith) f ∙ sym f) ∙ e
+
+-- Aliases whose targets have no destination: where nothing is stored, with one more, and as the rows are that say them
+without-stored : (aliases : List Pair) → Without [] aliases
+unfolding Without lookup
+without-stored [] = tt
+without-stored (x ∷ aliases) = (refl, without-stored aliases)
+
+without-snoc :
+    (stored aliases : List Pair) (x : Pair) → Without stored aliases → lookup (x .to) stored ≡ none
+    → Without stored (aliases ++ x ∷ [])
+unfolding Without
+without-snoc stored [] x h e = (e, tt)
+without-snoc stored (y ∷ aliases) x h e = (h .0, without-snoc stored aliases x (h .1) e)
+
+without-rows :
+    (w : List ℕ) (a a′ b b′ : List PairRow) → a′ ≡ a → b′ ≡ b → Without (map (pairOf w) a) (map (pairOf w) b)
+    → Without (map (pairOf w) a′) (map (pairOf w) b′)
+without-rows w a a′ b b′ e f h =
+    subst⁻¹ (λ (l : List PairRow). Without (map (pairOf w) l) (map (pairOf w) b′)) e
+    (subst⁻¹ (λ (l : List PairRow). Without (map (pairOf w) a) (map (pairOf w) l)) f h)
 
 -- the walk with one alias passed more, and with one left out whose target's destination was stored
 abbrev pub passedOne : Walk → Walk
 passedOne v =
-    record { passed = v .passed + 1; next = v .next + 1; end = v .end; misses = v .misses + 1; destinations = v .destinations }
+    record {
+      passed = v .passed + 1;
+      next = v .next + 1;
+      end = v .end;
+      misses = v .misses + 1;
+      destinations = v .destinations;
+      known = v .known;
+      fresh = v .fresh;
+    }
 
 abbrev pub storedOne : Walk → Walk
 storedOne v =
-    record { passed = v .passed; next = v .next + 1; end = v .end; misses = 0; destinations = v .destinations + 1 }
+    record {
+      passed = v .passed;
+      next = v .next + 1;
+      end = v .end;
+      misses = 0;
+      destinations = v .destinations + 1;
+      known = v .known;
+      fresh = v .fresh;
+    }
 
 -- what trying an alias keeps: t and t′ are the work numbers before and after, v and r the walk
 abbrev pub Tried : List ℕ → List ℕ → List ℕ → Walk → Walk → Type 0
@@ -151,11 +195,19 @@ module _ (t w : List ℕ) (v : Walk) (p : Tryable t w v) (x : PairRow) (e : x �
   unfolding PairsWithin
   within-next = subst (PairsWithin room) rows-next (p .0 .ahead-within)
 
+  without-next :
+      (lookup (part (x .to) w) (pairsOf (v .known) destinationsAt t w) ≡ none)
+      × Without (pairsOf (v .known) destinationsAt t w) (map (pairOf w) (behindRows t v))
+  unfolding Without
+  without-next =
+      subst (λ (rows : List PairRow). Without (pairsOf (v .known) destinationsAt t w) (map (pairOf w) rows)) rows-next (p .0 .ahead-without)
+
   pub tried-small : PairSmall x
   tried-small = pair-small room x (within-next .0) (omega arith)
 
-  pub tried-lookable : Lookable (x .to) (v .destinations) t w
-  tried-lookable = (p .0 .roomy, (omega arith, (within-next .0 .1, p .0 .destinations-within)))
+  pub tried-lookable : Lookable (x .to) (v .known) (v .destinations) t w
+  tried-lookable =
+      (p .0 .roomy, (omega arith, (within-next .0 .1, (p .0 .destinations-within, (p .0 .known-few, without-next .0)))))
 
   queue-next : queueOf t w v ≡ pairOf w x ∷ restOf t w v
   queue-next = ap (λ (rows : List PairRow). map (pairOf w) rows ++ pairsOf (v .passed) aliasesAt t w) rows-next
@@ -186,9 +238,14 @@ module _ (t w : List ℕ) (v : Walk) (p : Tryable t w v) (x : PairRow) (e : x �
   passed-rows = pairs-put (v .passed) aliasesAt t x (omega arith)
 
   passed-destinations :
+      (n : ℕ) → n ≤ v .destinations
+      → pairRows n destinationsAt (putPair t (aliasesAt + 4 * v .passed) x) ≡ pairRows n destinationsAt t
+  passed-destinations n h = pairs-pair-after n destinationsAt (aliasesAt + 4 * v .passed) t x (omega arith)
+
+  passed-all :
       pairRows (v .destinations) destinationsAt (putPair t (aliasesAt + 4 * v .passed) x)
       ≡ pairRows (v .destinations) destinationsAt t
-  passed-destinations = pairs-pair-after (v .destinations) destinationsAt (aliasesAt + 4 * v .passed) t x (omega arith)
+  passed-all = passed-destinations (v .destinations) (omega arith)
 
   passed-queue : queueOf (putPair t (aliasesAt + 4 * v .passed) x) w (passedOne v) ≡ restOf t w v ++ pairOf w x ∷ []
   passed-queue =
@@ -200,11 +257,20 @@ module _ (t w : List ℕ) (v : Walk) (p : Tryable t w v) (x : PairRow) (e : x �
       lookup (part (x .to) w) (storedIn t w v) ≡ none
       → walkOf (putPair t (aliasesAt + 4 * v .passed) x) w (passedOne v) ≡ walkOf t w v
   passed-walk g =
-      ap₂ (goesOn (v .misses + 1)) passed-queue (ap (map (pairOf w)) passed-destinations)
+      ap₂ (goesOn (v .misses + 1)) passed-queue (ap (map (pairOf w)) passed-all)
       ∙ sym (walk-next ∙ goes-miss (storedIn t w v) (v .misses) (pairOf w x) (restOf t w v) misses-fewer g)
 
-  passed-walking : Walking (putPair t (aliasesAt + 4 * v .passed) x) w (passedOne v)
-  passed-walking =
+  passed-more :
+      lookup (part (x .to) w) (storedIn t w v) ≡ none
+      → Without (pairsOf (v .fresh) destinationsAt t w) (map (pairOf w) (pairRows (v .passed) aliasesAt t ++ x ∷ []))
+  passed-more g =
+      subst⁻¹ (Without (pairsOf (v .fresh) destinationsAt t w)) (map-snoc (pairOf w) (pairRows (v .passed) aliasesAt t) x)
+      (without-snoc (pairsOf (v .fresh) destinationsAt t w) (pairsOf (v .passed) aliasesAt t w) (pairOf w x) (p .0 .passed-without)
+      (none-fewer w (part (x .to) w) (v .fresh) (v .destinations) destinationsAt t (p .0 .fresh-few) g))
+
+  passed-walking :
+      lookup (part (x .to) w) (storedIn t w v) ≡ none → Walking (putPair t (aliasesAt + 4 * v .passed) x) w (passedOne v)
+  passed-walking g =
       record {
         roomy = put-roomy (aliasesAt + 4 * v .passed) x;
         passed-before = omega arith;
@@ -212,11 +278,15 @@ module _ (t w : List ℕ) (v : Walk) (p : Tryable t w v) (x : PairRow) (e : x �
         few = omega arith;
         end-few = p .0 .end-few;
         misses-few = omega arith;
-        destinations-within = subst⁻¹ (PairsWithin room) passed-destinations (p .0 .destinations-within);
+        destinations-within = subst⁻¹ (PairsWithin room) passed-all (p .0 .destinations-within);
         ahead-within = subst⁻¹ (PairsWithin room) passed-behind (within-next .1);
         passed-within =
             subst⁻¹ (PairsWithin room) passed-rows
             (pairs-within-snoc room (pairRows (v .passed) aliasesAt t) x (p .0 .passed-within) (within-next .0));
+        known-few = p .0 .known-few;
+        fresh-few = p .0 .fresh-few;
+        ahead-without = without-rows w _ _ _ _ (passed-destinations (v .known) (p .0 .known-few)) passed-behind (without-next .1);
+        passed-without = without-rows w _ _ _ _ (passed-destinations (v .fresh) (p .0 .fresh-few)) passed-rows (passed-more g);
       }
 
   pub passed :
@@ -225,7 +295,7 @@ module _ (t w : List ℕ) (v : Walk) (p : Tryable t w v) (x : PairRow) (e : x �
   passed r g h t′ f =
       subst⁻¹ (λ (l : List ℕ). Tried t l w v (passedOne v)) f (
         passed-walk (sym g ∙ ap (λ (z : Lookup). foundOf z w) h),
-        (passed-walking, (omega arith, put-links (aliasesAt + 4 * v .passed) x (omega arith))),
+        (passed-walking (sym g ∙ ap (λ (z : Lookup). foundOf z w) h), (omega arith, put-links (aliasesAt + 4 * v .passed) x (omega arith))),
       )
 
   -- Its target's destination is stored under its name, by a row y, and it is left out
@@ -241,6 +311,11 @@ module _ (t w : List ℕ) (v : Walk) (p : Tryable t w v) (x : PairRow) (e : x �
         ≡ pairRows (v .destinations) destinationsAt t ++ y ∷ []
     stored-rows = pairs-put (v .destinations) destinationsAt t y (omega arith)
 
+    stored-destinations :
+        (n : ℕ) → n ≤ v .destinations
+        → pairRows n destinationsAt (putPair t (destinationsAt + 4 * v .destinations) y) ≡ pairRows n destinationsAt t
+    stored-destinations n h = pairs-pair-after n destinationsAt (destinationsAt + 4 * v .destinations) t y (omega arith)
+
     stored-walking : PairWithin room y → Walking (putPair t (destinationsAt + 4 * v .destinations) y) w (storedOne v)
     stored-walking b =
         record {
@@ -255,6 +330,11 @@ module _ (t w : List ℕ) (v : Walk) (p : Tryable t w v) (x : PairRow) (e : x �
               (pairs-within-snoc room (pairRows (v .destinations) destinationsAt t) y (p .0 .destinations-within) b);
           ahead-within = subst⁻¹ (PairsWithin room) stored-behind (within-next .1);
           passed-within = subst⁻¹ (PairsWithin room) stored-passed (p .0 .passed-within);
+          known-few = omega arith;
+          fresh-few = omega arith;
+          ahead-without = without-rows w _ _ _ _ (stored-destinations (v .known) (p .0 .known-few)) stored-behind (without-next .1);
+          passed-without =
+              without-rows w _ _ _ _ (stored-destinations (v .fresh) (p .0 .fresh-few)) stored-passed (p .0 .passed-without);
         }
 
   module _ (to : Span) where
@@ -292,7 +372,16 @@ module _ (t w : List ℕ) (v : Walk) (p : Tryable t w v) (x : PairRow) (e : x �
 
 -- At the end, the first again
 abbrev pub wrappedOne : Walk → Walk
-wrappedOne v = record { passed = 0; next = 0; end = v .passed; misses = v .misses; destinations = v .destinations }
+wrappedOne v =
+    record {
+      passed = 0;
+      next = 0;
+      end = v .passed;
+      misses = v .misses;
+      destinations = v .destinations;
+      known = v .fresh;
+      fresh = v .destinations;
+    }
 
 pub wrap-end : (v : Walk) → v .next ≡ v .end → wrap v ≡ wrappedOne v
 wrap-end v e = rw (eq-eqb (v .next) (v .end) e, wrap)
@@ -313,7 +402,7 @@ module _ (t w : List ℕ) (v : Walk) (ok : Walking t w v) (k : v .misses < leftO
       rw (f, g, append-nil)
 
   wrapped-end : v .next ≡ v .end → Wrapped t w v (wrappedOne v)
-  unfolding PairsWithin pairRows
+  unfolding PairsWithin Without pairRows
   wrapped-end e =
       let f : v .passed - 0 ≡ v .passed = omega arith in (
         (
@@ -327,6 +416,10 @@ module _ (t w : List ℕ) (v : Walk) (ok : Walking t w v) (k : v .misses < leftO
             destinations-within = ok .destinations-within;
             ahead-within = rw f (ok .passed-within);
             passed-within = tt;
+            known-few = ok .fresh-few;
+            fresh-few = omega arith;
+            ahead-without = rw f (ok .passed-without);
+            passed-without = tt;
           },
           (omega arith, omega arith),
         ),
@@ -354,8 +447,22 @@ module _ (aliases destinations : ℕ) (t w : List ℕ) where
 
   pub begun :
       AliasesHeld aliases destinations t w
-      → Walked aliases destinations t t w (record { passed = 0; next = 0; end = aliases; misses = 0; destinations = destinations })
-  unfolding PairsWithin pairRows
+      → Walked
+      aliases
+      destinations
+      t
+      t
+      w
+      (record {
+        passed = 0;
+        next = 0;
+        end = aliases;
+        misses = 0;
+        destinations = destinations;
+        known = 0;
+        fresh = destinations;
+      })
+  unfolding PairsWithin Without pairRows
   begun h =
       let f : aliases - 0 ≡ aliases = omega arith in (
         record {
@@ -368,6 +475,10 @@ module _ (aliases destinations : ℕ) (t w : List ℕ) where
           destinations-within = h .1 .1 .0;
           ahead-within = rw f (h .1 .1 .1);
           passed-within = tt;
+          known-few = omega arith;
+          fresh-few = omega arith;
+          ahead-without = without-stored (pairsOf (aliases - 0) aliasesAt t w);
+          passed-without = tt;
         },
         (
           ap (λ (q : List Pair). goesOn 0 q (pairsOf destinations destinationsAt t w)) begun-queue

@@ -36,7 +36,7 @@ use Rattle.iterator.specs.Collect.{
   pair,
 }
 use Rattle.iterator.specs.Records.{wordOf, bytes8, recordsOf}
-use Rattle.iterator.specs.Resolve.{Destination, has, none, search, hit, missed, resolveFrom, resolveReferences, Hyperlink}
+use Rattle.iterator.specs.Resolve.{Destination, has, none, lookup, search, hit, missed, resolveFrom, resolveReferences, Hyperlink}
 use Rattle.iterator.specs.Rows.{pairRows, linkRows, pairsOf, itemsOf, hyperlinksIn, destinationsAt, aliasesAt, direct, textOf, room, SpanWithin, PairsWithin, LinkWithin, LinksWithin, putLink, putPair}
 
 -- rows whose numbers fit into the work numbers
@@ -266,10 +266,14 @@ abbrev pub foundOf : Lookup → List ℕ → Destination
 foundOf (Has a) w = has (part a w)
 foundOf NotThere w = none
 
--- the names with a destination, n of them, and a name to be looked up stand in the areas
-abbrev pub Lookable : Span → ℕ → List ℕ → List ℕ → Type 0
-Lookable name n t w =
-    Roomy t w × ((n ≤ 256) × (SpanWithin room name × PairsWithin room (pairRows n destinationsAt t)))
+-- the names with a destination, n of them, and a name to be looked up stand in the areas; the first m of them are others
+abbrev pub Lookable : Span → ℕ → ℕ → List ℕ → List ℕ → Type 0
+Lookable name m n t w =
+    Roomy t w
+    × ((n ≤ 256)
+    × (SpanWithin room name
+    × (PairsWithin room (pairRows n destinationsAt t)
+    × ((m ≤ n) × (lookup (part name w) (pairsOf m destinationsAt t w) ≡ none)))))
 
 abbrev pub LookupWithin : Lookup → Type 0
 LookupWithin (Has a) = SpanWithin room a
@@ -302,9 +306,23 @@ walkOf t w v = goesOn (v .misses) (queueOf t w v) (pairsOf (v .destinations) des
 abbrev pub wrap : Walk → Walk
 wrap v =
     elim (eqb (v .next) (v .end)) [
-      | true ↦ record { passed = 0; next = 0; end = v .passed; misses = v .misses; destinations = v .destinations }
+      | true ↦
+          record {
+            passed = 0;
+            next = 0;
+            end = v .passed;
+            misses = v .misses;
+            destinations = v .destinations;
+            known = v .fresh;
+            fresh = v .destinations;
+          }
       | false ↦ v
     ]
+
+-- no alias's target has a destination among those that are stored
+unfoldable pub Without : List Pair → List Pair → Type 0
+Without stored [] = Unit {0}
+Without stored (x ∷ rest) = (lookup (x .to) stored ≡ none) × Without stored rest
 
 pub record Walking (t w : List ℕ) (v : Walk) : Type 0 where
   pub roomy : Roomy t w
@@ -316,6 +334,10 @@ pub record Walking (t w : List ℕ) (v : Walk) : Type 0 where
   pub destinations-within : PairsWithin room (pairRows (v .destinations) destinationsAt t)
   pub ahead-within : PairsWithin room (pairRows (v .end - v .next) (aliasesAt + 4 * v .next) t)
   pub passed-within : PairsWithin room (pairRows (v .passed) aliasesAt t)
+  pub known-few : v .known ≤ v .destinations
+  pub fresh-few : v .fresh ≤ v .destinations
+  pub ahead-without : Without (pairsOf (v .known) destinationsAt t w) (aheadOf t w v)
+  pub passed-without : Without (pairsOf (v .fresh) destinationsAt t w) (pairsOf (v .passed) aliasesAt t w)
 
 -- an alias is next, and not all that are left were missed
 abbrev pub Tryable : List ℕ → List ℕ → Walk → Type 0

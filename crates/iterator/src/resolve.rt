@@ -42,14 +42,15 @@ pub enum Lookup {
     NotThere,
 }
 
-// The destination of a name. The names with their destinations are the first n rows of their table.
-pub fn destination_of(name: Span, n: usize, numbers: &[u32], bytes: &[u8]) -> Lookup
-    requires { ⌜ Lookable name n (now numbers) (now bytes) ⌝ }
+// The destination of a name. The names with their destinations are the first n rows of their table; those before `from` are known not to
+// have the name, and are not looked at.
+pub fn destination_of(name: Span, from: usize, n: usize, numbers: &[u32], bytes: &[u8]) -> Lookup
+    requires { ⌜ Lookable name from n (now numbers) (now bytes) ⌝ }
     ensures found { λ r. ⌜ foundOf r (now (bytes .entry)) ≡ lookup (part name (now (bytes .entry))) (pairsOf n destinationsAt (now (numbers .entry)) (now (bytes .entry))) ⌝ }
     ensures within { λ r. ⌜ LookupWithin r ⌝ }
 {
     let mut i = n;
-    while 0 < i {
+    while from < i {
         i -= 1;
         let row = pair_at(numbers, DESTINATIONS + 4 * i);
         let stored = row.name;
@@ -62,16 +63,19 @@ pub fn destination_of(name: Span, n: usize, numbers: &[u32], bytes: &[u8]) -> Lo
 }
 
 // Where the walk through the aliases is: of their table the rows before `passed` and those from `next` to `end` are left; so many were
-// missed in a row; so many names have a destination.
+// missed in a row; so many names have a destination. Of these the first `known` have no target of an alias from `next` to `end`, and the
+// first `fresh` have none of an alias before `passed`: rows that need not be looked at again.
 pub struct Walk {
     pub passed: usize,
     pub next: usize,
     pub end: usize,
     pub misses: usize,
     pub destinations: usize,
+    pub known: usize,
+    pub fresh: usize,
 }
 
-// At the end, the first again.
+// At the end, the first again: those that were passed are ahead now, and none is passed.
 fn wrapped(v: Walk) -> Walk
     ensures { λ r. ⌜ r ≡ wrap v ⌝ }
 {
@@ -82,6 +86,8 @@ fn wrapped(v: Walk) -> Walk
             end: v.passed,
             misses: v.misses,
             destinations: v.destinations,
+            known: v.fresh,
+            fresh: v.destinations,
         };
     }
     v
@@ -99,19 +105,18 @@ fn try_alias(v: Walk, numbers: &mut [u32], bytes: &[u8]) -> Walk
     let x = pair_at(numbers, ALIASES + 4 * v.next);
     let name = x.name;
     let target = x.to;
-    match destination_of(target, v.destinations, numbers, bytes) {
+    match destination_of(target, v.known, v.destinations, numbers, bytes) {
         Lookup::Has(to) => {
-            put_pair(
-                numbers,
-                DESTINATIONS + 4 * v.destinations,
-                PairRow { name, to },
-            );
+            let row = PairRow { name, to };
+            put_pair(numbers, DESTINATIONS + 4 * v.destinations, row);
             Walk {
                 passed: v.passed,
                 next: v.next + 1,
                 end: v.end,
                 misses: 0,
                 destinations: v.destinations + 1,
+                known: v.known,
+                fresh: v.fresh,
             }
         }
         Lookup::NotThere => {
@@ -122,6 +127,8 @@ fn try_alias(v: Walk, numbers: &mut [u32], bytes: &[u8]) -> Walk
                 end: v.end,
                 misses: v.misses + 1,
                 destinations: v.destinations,
+                known: v.known,
+                fresh: v.fresh,
             }
         }
     }
@@ -144,6 +151,8 @@ pub fn resolve_label2label_references(
         end: aliases,
         misses: 0,
         destinations,
+        known: 0,
+        fresh: destinations,
     };
     while v.misses < v.passed + (v.end - v.next) {
         v = try_alias(wrapped(v), numbers, bytes);
@@ -189,7 +198,7 @@ fn resolve_link(
     if x.kind == REFERENCE {
         let text = x.text;
         let label = x.goal;
-        return match destination_of(label, destinations, numbers, bytes) {
+        return match destination_of(label, 0, destinations, numbers, bytes) {
             Lookup::Has(goal) => {
                 let row = LinkRow {
                     place: x.place,

@@ -1,27 +1,28 @@
 -- `resolve::destination_of` meets its contract. The loop's invariant: the name has in all rows what it has in the first `i`, since none of
--- the others has it. The measure is how many rows are left.
+-- the others has it. At the end these are the rows in which it has nothing. The measure is how many rows are left.
 -- Assumes nothing.
 use Prim.Native.Nat.{_≤_}
 use native.Mathlib.Omega.{arith}
-use mathlib.Core.Path.{_≡_, refl, sym, _∙_}
+use mathlib.Core.Path.{_≡_, refl, ap, sym, _∙_}
 use Rattle.restructured_text.specs.Strings.{part}
 use Rattle.iterator.specs.Rows.{pairsOf, destinationsAt}
 use Rattle.iterator.specs.Resolve.{lookup}
-use Rattle.iterator.proofs.WalkLaws.{row-same, row-other, row-none, row-within}
+use Rattle.iterator.proofs.WalkLaws.{row-same, row-other, row-within}
 use Rattle.iterator.proofs.resolve.destination_of.Statement.{statement}
 use Rattle.iterator.proofs.resolve.destination_of.Tie as tie
 
 abbrev Inv-loop : tie.InvT-loop
-Inv-loop name n numbers bytes i₀ i =
-    (i ≤ n)
+Inv-loop name from n numbers bytes i₀ i =
+    (from ≤ i)
+    × ((i ≤ n)
     × (lookup (part name bytes) (pairsOf n destinationsAt numbers bytes)
-    ≡ lookup (part name bytes) (pairsOf i destinationsAt numbers bytes))
+    ≡ lookup (part name bytes) (pairsOf i destinationsAt numbers bytes)))
 
 abbrev μ-loop : tie.MeasureT-loop
-μ-loop name n numbers bytes i₀ i = i
+μ-loop name from n numbers bytes i₀ i = i
 
 loop-holds : tie.Need-loop-holds Inv-loop μ-loop
-loop-holds c = (omega arith, refl)
+loop-holds c = (c .before .before .pre .1 .1 .1 .1 .0, (omega arith, refl))
 
 sub-i : tie.Need-sub-i Inv-loop μ-loop
 sub-i c = omega arith
@@ -41,7 +42,7 @@ same-name-requires c κs =
     let l = x .before .before .loop in
     let s = x .before .before .before .before .before in
     let r = x .pair-at in
-    let b = row-within (s .args .n) (s .args .numbers .now) (l .i) (r .result) (omega arith) (omega arith) (r .ensures) (s .pre .1 .1 .1) in
+    let b = row-within (s .args .n) (s .args .numbers .now) (l .i) (r .result) (omega arith) (omega arith) (r .ensures) (s .pre .1 .1 .1 .0) in
     (omega (arith, b .0 .0, s .pre .0 .1), omega (arith, s .pre .1 .1 .0 .0, s .pre .0 .1))
 
 returns : tie.Need-returns Inv-loop μ-loop
@@ -52,8 +53,8 @@ returns c =
     let a = s .args in
     let r = x .pair-at in
     let same = sym (c .before .same-name .ensures) ∙ c .if1 .taken in (
-      sym (l .inv .1 ∙ row-same (a .numbers .now) (a .bytes .now) (a .name) (l .i) (r .result) (omega arith) (r .ensures) same),
-      row-within (a .n) (a .numbers .now) (l .i) (r .result) (omega arith) (omega arith) (r .ensures) (s .pre .1 .1 .1) .1,
+      sym (l .inv .1 .1 ∙ row-same (a .numbers .now) (a .bytes .now) (a .name) (l .i) (r .result) (omega arith) (r .ensures) same),
+      row-within (a .n) (a .numbers .now) (l .i) (r .result) (omega arith) (omega arith) (r .ensures) (s .pre .1 .1 .1 .0) .1,
     )
 
 loop-less : tie.Need-loop-less Inv-loop μ-loop
@@ -66,13 +67,16 @@ loop-again c =
     let a = x .before .before .before .before .before .args in
     let r = x .pair-at in
     let other = sym (c .before .same-name .ensures) ∙ c .if1 .left in
-    (omega arith, l .inv .1 ∙ row-other (a .numbers .now) (a .bytes .now) (a .name) (l .i) (r .result) (omega arith) (r .ensures) other)
+    (omega arith, (omega arith, l .inv .1 .1 ∙ row-other (a .numbers .now) (a .bytes .now) (a .name) (l .i) (r .result) (omega arith) (r .ensures) other))
 
 returns-2 : tie.Need-returns-2 Inv-loop μ-loop
 returns-2 c =
     let l = c .before .loop in
-    let a = c .before .before .before .before .args in
-    (sym (l .inv .1 ∙ row-none (a .numbers .now) (a .bytes .now) (part (a .name) (a .bytes .now)) (l .i) (omega arith)), tt)
+    let s = c .before .before .before .before in
+    let a = s .args in
+    let e : l .i ≡ a .from = omega arith in
+    let f = ap (λ k. lookup (part (a .name) (a .bytes .now)) (pairsOf k destinationsAt (a .numbers .now) (a .bytes .now))) e in
+    (sym (l .inv .1 .1 ∙ f ∙ s .pre .1 .1 .1 .1 .1), tt)
 
 pub destination-of-spec : {M : Type 1} → statement M
 destination-of-spec =

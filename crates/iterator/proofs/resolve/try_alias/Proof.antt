@@ -41,11 +41,13 @@ put-pair-requires c κs =
     let small = stored-small (a .numbers .now) (a .bytes .now) (a .v) (s .pre) (x .pair-at .result) (x .pair-at .ensures) _ (r .result) in
     (omega (arith, s .pre .0 .roomy .0, s .pre .0 .few, s .pre .1 .0), small (r .ensures .1) (c .before .before .before .to .given .1))
 
-add-t19 : tie.Need-add-t19
-add-t19 c = search needs
-
 add-t20 : tie.Need-add-t20
 add-t20 c =
+    let s = c .before .before .before .before .before .before .before .before .before .before .before .before .before .before .before .before .before .before in
+    omega (arith, s .pre .0 .end-few, s .pre .1 .0)
+
+add-t21 : tie.Need-add-t21
+add-t21 c =
     let d = c .before .before .before .before .before .before .before .before .before .before in
     let s = d .before .before .before .before .before .before .before .before .before in
     omega (arith, s .pre .0 .few, s .pre .1 .0)
@@ -72,7 +74,9 @@ add-t25 : tie.Need-add-t25
 add-t25 c = search needs
 
 add-t26 : tie.Need-add-t26
-add-t26 c = search needs
+add-t26 c =
+    let s = c .before .before .before .before .before .before .before .before .before .before .before .before .before .before .before .before .before .before in
+    omega (arith, s .pre .0 .end-few, s .pre .1 .0)
 
 add-t27 : tie.Need-add-t27
 add-t27 c =
@@ -120,8 +124,8 @@ try-alias-spec =
     mul-put-pair
     add-put-pair
     put-pair-requires
-    add-t19
     add-t20
+    add-t21
     enum-told
     mul-put-pair-2
     add-put-pair-2
