@@ -1,5 +1,5 @@
--- The laws of characters and of runs of them: the character at a position, lengths, one step of a run, and what a line feed
--- behind the text changes. Up to `char-lf` they go by the two kinds of characters; the laws of `run` need only these.
+-- The laws of characters and of runs of them: the character at a position, lengths, one step of a run, bytes that are all below 80, and
+-- what a line feed behind the text changes. Up to `char-lf` they go by the two kinds of characters; the laws of `run` need only these.
 -- Assumes nothing.
 use Prim.Native.Nat.{ℕ, zero, suc, _+_, _-_, _<_, _≤_}
 use native.Mathlib.Nat.{add-zero, add-assoc}
@@ -7,13 +7,13 @@ use native.Mathlib.Omega.{arith}
 use mathlib.Core.Path.{_≡_, refl, sym, ap, _∙_}
 use mathlib.Core.Logic.{_⊎_, inl, inr, ⊎-elim}
 use mathlib.Core.List.{List, [], _∷_, _++_}
-use mathlib.Core.Bool.{Bool, true, false, and-false, and-eq-true-iff}
+use mathlib.Core.Bool.{Bool, true, false, _&&_, and-false, and-true, and-eq-true-iff}
 use lib.Dec.{ltb, leb, eqb}
 use lib.ListN.{length, getD, drop, length-drop, length-append}
 use lib.Seq.{getD-drop, drop-drop}
 use borrow.Author.Tests.{ltb-true, leb-true, eqb-true, lt-ltb, le-ltb, lt-leb, ne-eqb}
 use Rattle.rst_bytes.specs.Tests.{between}
-use Rattle.rst_bytes.specs.Domain.{isPair, pointOf, pairOf, charOf, run, any, outsideOf}
+use Rattle.rst_bytes.specs.Domain.{isPair, pointOf, pairOf, charOf, run, any, isAscii, outsideOf}
 use Rattle.rst_bytes.specs.declared.Character.{Character}
 use Rattle.rst_bytes.specs.declared.Character.the-variants.{Starts, Nothing}
 use Rattle.rst_bytes.specs.declared.Outside.{Outside}
@@ -304,6 +304,47 @@ outside-at s i h e n = outside-yes s i (e ∙ run-none any i (drop i s) n) h
 -- reading came to the end
 pub outside-nowhere : (s : List ℕ) (i : ℕ) → length s ≤ i → run any 0 0 s ≡ run any 0 i (drop i s) → outsideOf s ≡ Nowhere
 outside-nowhere s i h e = outside-no s i (e ∙ run-none any i (drop i s) (at-end s i h)) h
+
+-- where every byte is below 80 each is a character, up to the end
+ascii-run : (n : ℕ) (s : List ℕ) → isAscii s ≡ true → run any 0 n s ≡ n + length s
+unfolding run isAscii
+ascii-run n [] e = sym (add-zero n)
+ascii-run n (b ∷ s) e =
+    let w = and-eq-true-iff (ltb b 0x80) (isAscii s) .0 e in
+    run-cons any n b s 1 b (at-one (b ∷ s) 0 (omega arith) (ltb-true b 0x80 (w .0))) refl ∙ ascii-run (n + 1) s (w .1) ∙ omega arith
+
+pub outside-ascii : (s : List ℕ) → isAscii s ≡ true → outsideOf s ≡ Nowhere
+outside-ascii s e = outside-no s (0 + length s) (ascii-run 0 s e) (omega arith)
+
+-- of two numbers the greater alone decides whether both are below 80
+greater-first : (a b : ℕ) (x : Bool) → b ≤ a → (ltb a 0x80 && (ltb b 0x80 && x)) ≡ (ltb a 0x80 && x)
+greater-first a b x h =
+    ⊎-elim
+    (λ (l : a < 0x80). simp (lt-ltb b 0x80 (omega arith)))
+    (λ (l : 0x80 ≤ a). simp (le-ltb a 0x80 l))
+    (lt-or-le a 0x80)
+
+greater-second : (a b : ℕ) (x : Bool) → a < b → (ltb a 0x80 && (ltb b 0x80 && x)) ≡ (ltb b 0x80 && x)
+greater-second a b x h =
+    ⊎-elim
+    (λ (l : b < 0x80). simp (lt-ltb a 0x80 (omega arith)))
+    (λ (l : 0x80 ≤ b). simp (le-ltb b 0x80 l, and-false))
+    (lt-or-le b 0x80)
+
+-- Every byte is below 80, read up to a position: the greatest so far and the bytes from there on are.
+module _ (s : List ℕ) (i top : ℕ) where
+  module _ (h : i < length s) where
+    pub ascii-same : getD s i 0 ≤ top → (ltb top 0x80 && isAscii (drop i s)) ≡ (ltb top 0x80 && isAscii (drop (i + 1) s))
+    unfolding isAscii
+    ascii-same l = rw (drop-next s i h) (greater-first top (getD s i 0) (isAscii (drop (i + 1) s)) l)
+
+    pub ascii-more : top < getD s i 0 → (ltb top 0x80 && isAscii (drop i s)) ≡ (ltb (getD s i 0) 0x80 && isAscii (drop (i + 1) s))
+    unfolding isAscii
+    ascii-more l = rw (drop-next s i h) (greater-second top (getD s i 0) (isAscii (drop (i + 1) s)) l)
+
+  pub ascii-end : length s ≤ i → (ltb top 0x80 && isAscii (drop i s)) ≡ ltb top 0x80
+  unfolding isAscii
+  ascii-end h = rw (drop-end s i h) (and-true (ltb top 0x80))
 
 -- the place is within the document
 pub outside-within : (s : List ℕ) (n : ℕ) → outsideOf s ≡ At n → n < length s

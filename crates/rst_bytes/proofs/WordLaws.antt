@@ -1,18 +1,20 @@
--- A table of ranges that passes `apart` rises; `inRanges` at the entries of a flat list; and words before a line feed.
+-- A table of ranges that passes `apart` rises; `inRanges` at the entries of a flat list; bytes below 80 in a word; and words before a
+-- line feed.
 -- Assumes nothing.
 use Prim.Native.Nat.{ℕ, zero, suc, _+_, _-_, _*_, _≤_, _<_, zero-le, suc-le-suc}
 use native.Mathlib.Nat.{le-refl, le-trans, lt-of-lt-of-le, le-of-lt, le-of-suc-le-suc, not-suc-le-zero, add-zero, add-suc}
 use native.Mathlib.Numerals.{add-one}
 use native.Mathlib.Omega.{arith}
-use mathlib.Core.Path.{_≡_, refl}
+use mathlib.Core.Path.{_≡_, refl, _∙_}
 use mathlib.Core.Logic.{_⊎_, inl, ⊎-elim}
 use mathlib.Core.List.{List, [], _∷_, _++_}
 use mathlib.Core.Bool.{Bool, true, false, _&&_, or-true, or-false, and-false}
 use lib.Dec.{T, leb, ltb, leb→le, ltb→lt}
-use lib.ListN.{length, getD}
+use lib.ListN.{length, getD, drop}
 use borrow.Author.Tests.{le-leb, lt-leb, ne-eqb}
 use Rattle.rst_bytes.specs.Word.{inRanges, apart, wordRanges, isAsciiWord, isWord, wordOf}
-use Rattle.rst_bytes.proofs.DomainLaws.{run-within, run-lf}
+use Rattle.rst_bytes.specs.Domain.{run}
+use Rattle.rst_bytes.proofs.DomainLaws.{at-one, at-taken, run-ended, run-within, run-lf}
 
 and-left : (a b : Bool) → T (a && b) → T a
 and-left true b t = tt
@@ -98,6 +100,14 @@ word-low c h = simp (below wordRanges tt c (omega arith), or-false)
 pub word-high : (c : ℕ) → 0x80 ≤ c → isWord c ≡ inRanges c wordRanges
 unfolding isWord isAsciiWord
 word-high c h = simp (lt-leb c 0x39 (omega arith), lt-leb c 0x5A (omega arith), lt-leb c 0x7A (omega arith), ne-eqb c 0x2D (λ e. omega arith), ne-eqb c 0x5F (λ e. omega arith), and-false)
+
+-- A byte below 80 at a position: the run goes on behind it, or ends before it.
+module _ (s : List ℕ) (i : ℕ) (h : i < length s) (l : getD s i 0 < 0x80) where
+  pub ascii-taken : isAsciiWord (getD s i 0) ≡ true → run isWord 0 i (drop i s) ≡ run isWord 0 (i + 1) (drop (i + 1) s)
+  ascii-taken e = at-taken isWord s i 1 (getD s i 0) (at-one s i h l) (word-low (getD s i 0) l ∙ e)
+
+  pub ascii-ended : isAsciiWord (getD s i 0) ≡ false → run isWord 0 i (drop i s) ≡ i
+  ascii-ended e = run-ended isWord i (drop i s) 1 (getD s i 0) (at-one s i h l) (word-low (getD s i 0) l ∙ e)
 
 -- a word is within what there is
 pub word-within : (s : List ℕ) → wordOf s ≤ length s

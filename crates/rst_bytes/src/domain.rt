@@ -3,7 +3,7 @@ use crate::Character;
 use crate::Outside;
 ghost use mathlib.Core.Path.{_≡_};
 ghost use lib.ListN.{drop};
-ghost use Rattle.rst_bytes.specs.Domain.{isPair, charOf, outsideOf};
+ghost use Rattle.rst_bytes.specs.Domain.{isPair, charOf, isAscii, outsideOf};
 
 // Whether two bytes are a character: C2 to C8 and 80 to BF, or C9 and 80 to 8F.
 fn is_pair(b: u8, c: u8) -> bool
@@ -48,10 +48,29 @@ pub fn char_at(s: &[u8], i: usize) -> Character
     }
 }
 
-// Where the document leaves the domain, read character by character.
+// Whether every byte is below 80, by the greatest of them. No byte ends the loop, so many can be taken at a time.
+fn is_ascii(s: &[u8]) -> bool
+    ensures { λ r. ⌜ r ≡ isAscii (now (s .entry)) ⌝ }
+{
+    let mut top = 0;
+    let mut i = 0;
+    while i < s.len() {
+        let b = s[i];
+        if top < b {
+            top = b;
+        }
+        i = i + 1;
+    }
+    top < 0x80
+}
+
+// Where the document leaves the domain: nowhere where every byte is below 80, else read character by character.
 pub fn first_outside(s: &[u8]) -> Outside
     ensures { λ r. ⌜ r ≡ outsideOf (now (s .entry)) ⌝ }
 {
+    if is_ascii(s) {
+        return Outside::Nowhere;
+    }
     let mut i = 0;
     while i < s.len() {
         match char_at(s, i) {

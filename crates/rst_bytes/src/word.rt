@@ -50,10 +50,13 @@ fn in_ranges(t: &[u32], c: u32) -> bool
     false
 }
 
-// An ASCII letter or digit, '-' or '_'.
+// An ASCII letter or digit, '-' or '_'. Small letters, of which a text has the most, are told first.
 fn is_ascii_word(c: u32) -> bool
     ensures { λ r. ⌜ r ≡ isAsciiWord c ⌝ }
 {
+    if 0x61 <= c {
+        return c <= 0x7A;
+    }
     if c < 0x30 {
         return c == 0x2D;
     }
@@ -66,10 +69,7 @@ fn is_ascii_word(c: u32) -> bool
     if c <= 0x5A {
         return true;
     }
-    if c < 0x61 {
-        return c == 0x5F;
-    }
-    c <= 0x7A
+    c == 0x5F
 }
 
 // Whether a code point is a word character.
@@ -83,22 +83,31 @@ pub fn is_word(c: u32) -> bool
     }
 }
 
-// How many bytes the maximal run of word characters at the front takes.
+// How many bytes the maximal run of word characters at the front takes. A byte below 80 is a character by itself.
 pub fn word_run(s: &[u8]) -> usize
     ensures { λ r. ⌜ r ≡ wordOf (now (s .entry)) ⌝ }
 {
     let mut i = 0;
     while i < s.len() {
-        match char_at(s, i) {
-            Character::Starts(len, point) => {
-                if is_word(point) {
-                    i = i + len;
-                } else {
+        let b = s[i];
+        if b < 0x80 {
+            if is_ascii_word(b as u32) {
+                i = i + 1;
+            } else {
+                return i;
+            }
+        } else {
+            match char_at(s, i) {
+                Character::Starts(len, point) => {
+                    if is_word(point) {
+                        i = i + len;
+                    } else {
+                        return i;
+                    }
+                }
+                Character::Nothing => {
                     return i;
                 }
-            }
-            Character::Nothing => {
-                return i;
             }
         }
     }
