@@ -5,6 +5,11 @@ use std::time::{Duration, Instant};
 /// A sample repeats a call until it takes at least so long.
 const SAMPLE: Duration = Duration::from_micros(500);
 
+/// Samples of calls that take long are fewer, so that they take at most so long
+/// together, but at least three.
+const TOGETHER: f64 = 1.0;
+const LEAST: u32 = 3;
+
 /// Samples of one call, in seconds for each call.
 pub struct Samples {
     repeat: u32,
@@ -20,31 +25,53 @@ fn timed(repeat: u32, call: &mut dyn FnMut()) -> Duration {
 }
 
 impl Samples {
-    /// Finds how often to repeat the call, and takes no sample yet.
-    pub fn new(call: &mut dyn FnMut()) -> Samples {
+    /// Finds how often to repeat the call, and takes no sample yet; gives how long
+    /// one will take.
+    fn new(call: &mut dyn FnMut()) -> (Samples, f64) {
         let mut repeat = 1;
-        while timed(repeat, call) < SAMPLE {
+        let mut time = timed(repeat, call);
+        while time < SAMPLE {
             repeat *= 2;
+            time = timed(repeat, call);
         }
-        Samples {
-            repeat,
-            seconds: Vec::new(),
-        }
+        let seconds = Vec::new();
+        (Samples { repeat, seconds }, time.as_secs_f64())
     }
 
-    pub fn take(&mut self, call: &mut dyn FnMut()) {
+    fn take(&mut self, call: &mut dyn FnMut()) {
         let time = timed(self.repeat, call);
         self.seconds
             .push(time.as_secs_f64() / f64::from(self.repeat));
     }
 
-    pub fn time(mut self) -> Time {
-        self.seconds.sort_by(f64::total_cmp);
-        let at =
-            |part: f64| self.seconds[((self.seconds.len() - 1) as f64 * part).round() as usize];
+    fn time(self) -> Time {
+        let Spread {
+            median,
+            quartiles: [low, high],
+            ..
+        } = Spread::of(self.seconds);
         Time {
+            median,
+            spread: (high - low) / median,
+        }
+    }
+}
+
+/// How values lie.
+pub struct Spread {
+    pub median: f64,
+    pub quartiles: [f64; 2],
+    pub ends: [f64; 2],
+}
+
+impl Spread {
+    pub fn of(mut values: Vec<f64>) -> Spread {
+        values.sort_by(f64::total_cmp);
+        let at = |part: f64| values[((values.len() - 1) as f64 * part).round() as usize];
+        Spread {
             median: at(0.5),
-            spread: (at(0.75) - at(0.25)) / at(0.5),
+            quartiles: [at(0.25), at(0.75)],
+            ends: [at(0.0), at(1.0)],
         }
     }
 }
@@ -59,8 +86,11 @@ pub struct Time {
 /// The times of several calls, sampled in turn, so that what else the machine
 /// does meets them all.
 pub fn times<const N: usize>(samples: u32, mut calls: [&mut dyn FnMut(); N]) -> [Time; N] {
-    let mut all = calls.each_mut().map(|call| Samples::new(*call));
-    for _ in 0..samples {
+    let found = calls.each_mut().map(|call| Samples::new(*call));
+    let round: f64 = found.iter().map(|(_, seconds)| seconds).sum();
+    let mut all = found.map(|(list, _)| list);
+    let most = (TOGETHER / round) as u32;
+    for _ in 0..samples.min(most.max(LEAST)) {
         for (list, call) in all.iter_mut().zip(&mut calls) {
             list.take(*call);
         }
