@@ -5,9 +5,9 @@
 use crate::documents::{INPUTS, SIZES};
 use crate::notes::{Note, notes};
 use crate::pass;
-use crate::show::{ratio, timed, value};
+use crate::show::{held, machine, ratio, timed, value};
 use crate::texts::{PROSE, repeated};
-use crate::time::{Spread, Time, times};
+use crate::time::{Runs, Time, times};
 use crate::whole::{Areas, agreed, rust, text};
 use crate::words::Words;
 use driver::document::DOCUMENT_MAX;
@@ -22,7 +22,7 @@ struct Row {
     bar: Option<f64>,
     docs: Vec<Vec<u8>>,
     links: usize,
-    runs: Vec<[Time; 2]>,
+    runs: Runs<2>,
 }
 
 impl Row {
@@ -33,13 +33,13 @@ impl Row {
             bar,
             docs,
             links,
-            runs: Vec::new(),
+            runs: Runs(Vec::new()),
         }
     }
 
     fn run(&mut self, samples: u32, areas: &mut Areas) {
         let texts: Vec<_> = self.docs.iter().map(|doc| text(doc)).collect();
-        self.runs.push(times(
+        self.runs.0.push(times(
             samples,
             [
                 &mut || {
@@ -60,34 +60,13 @@ impl Row {
         self.docs.iter().map(Vec::len).sum()
     }
 
-    /// The median of one side over the runs, with the median of their spreads.
-    fn time(&self, side: usize) -> Time {
-        let over = |part: fn(&Time) -> f64| {
-            let values = self.runs.iter().map(|run| part(&run[side]));
-            Spread::of(values.collect()).median
-        };
-        Time {
-            median: over(|time| time.median),
-            spread: over(|time| time.spread),
-        }
-    }
-
-    /// Ours over the Rust's, of each run.
-    fn ratio(&self) -> Spread {
-        let ratios = self
-            .runs
-            .iter()
-            .map(|[ours, rust]| ours.median / rust.median);
-        Spread::of(ratios.collect())
-    }
-
     fn show(&self, half: Option<&Row>) {
-        let [ours, rust] = [self.time(0), self.time(1)];
+        let [ours, rust] = [self.runs.time(0), self.runs.time(1)];
         let growth = |side: usize, time: Time| {
-            let before = half.map(|half| half.time(side).median);
+            let before = half.map(|half| half.runs.time(side).median);
             value(ratio(Some(time.median), before), 7, 2)
         };
-        let over = self.ratio();
+        let over = self.runs.ratio(0, 1);
         println!(
             "{:>5}{:>9}{:>6} |{}{:>8.2}{} |{}{} |{:>8.4} ({:.4} to {:.4}){}",
             self.docs.len(),
@@ -101,15 +80,9 @@ impl Row {
             over.median,
             over.ends[0],
             over.ends[1],
-            self.bar.map_or(String::new(), |bar| held(over.median, bar)),
+            held(over.median, self.bar),
         );
     }
-}
-
-/// Whether a figure is within its bar.
-fn held(figure: f64, bar: f64) -> String {
-    let word = if figure <= bar { "met" } else { "missed" };
-    format!(", bar {bar}: {word}")
 }
 
 /// The rows of all inputs that are meant; those of one input stand together, the
@@ -155,33 +128,23 @@ fn passes(samples: u32, areas: &mut Areas) -> [Time; 4] {
 }
 
 /// The call on plain prose over the plain passes.
-fn show_passes(runs: &[[Time; 4]]) {
+fn show_passes(runs: &Runs<4>) {
     println!("plain passes ({})", pass::COMPILED);
+    println!("{}   the document call on plain prose", timed(runs.time(0)));
     let names = [
-        "the document call on plain prose",
-        "both work areas zeroed",
-        "the same, and the bytes added up",
-        "the same, added up in 32 bits",
+        ("both work areas zeroed", None),
+        ("the same, and the bytes added up", Some(PASSES)),
+        ("the same, added up in 32 bits", None),
     ];
-    for (side, name) in names.iter().enumerate() {
-        let spread = |of: fn(&[Time; 4], usize) -> f64| {
-            Spread::of(runs.iter().map(|run| of(run, side)).collect())
-        };
-        let time = Time {
-            median: spread(|run, side| run[side].median).median,
-            spread: spread(|run, side| run[side].spread).median,
-        };
-        let over = spread(|run, side| run[0].median / run[side].median);
+    for (side, (name, bar)) in (1..).zip(names) {
+        let over = runs.ratio(0, side);
         println!(
             "{}   {name}; the call takes {:.2} ({:.2} to {:.2}) times as long{}",
-            timed(time),
+            timed(runs.time(side)),
             over.median,
             over.ends[0],
             over.ends[1],
-            match side {
-                2 => held(over.median, PASSES),
-                _ => String::new(),
-            }
+            held(over.median, bar),
         );
     }
 }
@@ -192,7 +155,7 @@ fn show_worst(real: &[Note], samples: u32, areas: &mut Areas) {
     let ratios = long.map(|note| {
         let mut row = Row::new("", None, vec![note.doc.clone()], areas);
         row.run(samples, areas);
-        (row.ratio().median, note)
+        (row.runs.ratio(0, 1).median, note)
     });
     if let Some((most, note)) = ratios.max_by(|a, b| a.0.total_cmp(&b.0)) {
         println!(
@@ -210,13 +173,14 @@ pub fn run(words: &Words) {
         false => Vec::new(),
     };
     let mut rows = rows(words, &real, &mut areas);
-    let mut pass_runs = Vec::new();
+    let mut pass_runs = Runs(Vec::new());
     for _ in 0..words.runs {
-        pass_runs.push(passes(words.samples, &mut areas));
+        pass_runs.0.push(passes(words.samples, &mut areas));
         for row in &mut rows {
             row.run(words.samples, &mut areas);
         }
     }
+    println!("{}", machine());
     show_passes(&pass_runs);
     println!(
         " docs    bytes links |     ours µs    ± ns/byte growth |     Rust µs    ± growth |    ours / Rust"
@@ -230,7 +194,7 @@ pub fn run(words: &Words) {
         row.show(before);
         before = Some(row);
     }
-    if real.is_empty() {
+    if words.means("real notes") && real.is_empty() {
         println!("no real notes below {}: skipped", words.notes.display());
     }
     show_worst(&real, words.samples, &mut areas);

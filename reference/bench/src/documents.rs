@@ -66,6 +66,12 @@ fn referred(len: usize) -> Vec<u8> {
     [references, targets].join("\n").into_bytes()
 }
 
+/// A target that takes most of the document, and references to it.
+fn referred_again(len: usize) -> Vec<u8> {
+    let references = "a_ ".repeat(part_of_250(len));
+    between(".. _a: ", "u", &format!("\n{references}"), len)
+}
+
 /// A destination and as many aliases as there may be beside it, of names that end
 /// in a number, each leading to the one behind it, and a reference to the first.
 fn chain(len: usize, name: &str) -> Vec<u8> {
@@ -95,7 +101,7 @@ fn spaced(piece: &str, links: usize, text: &str, len: usize) -> Vec<u8> {
     piece.into_iter().cycle().take(len).collect()
 }
 
-pub const INPUTS: [Input; 28] = [
+pub const INPUTS: [Input; 29] = [
     grown!("plain prose", Some(0.1), |n| repeated(PROSE, n)),
     single!("a short note", Some(0.2), NOTES),
     grown!("250 references with targets", Some(0.2), referred),
@@ -129,6 +135,11 @@ pub const INPUTS: [Input; 28] = [
     grown!("250 embedded links", None, |n| {
         spaced("`a <u>`_ ", 1, "and words ", n)
     }),
+    grown!(
+        "250 references to one long destination",
+        None,
+        referred_again
+    ),
     grown!("one word", None, |n| repeated("a", n)),
     grown!("one word of two-byte letters", None, |n| repeated("é", n)),
     grown!("words of one letter", None, |n| repeated("a ", n)),

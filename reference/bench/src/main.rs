@@ -3,19 +3,22 @@
 //!
 //!     bench [document] [--samples N] [--runs N] [--notes FOLDER] [NAME]
 //!     bench single [--samples N] [NAME]
-//!     bench search [--samples N] [--minutes N] [--seed N]
+//!     bench search [--samples N] [--bytes N] [--minutes N] [--seed N]
 //!
 //! N samples are taken of each (11), and all of them again in each of N runs (5),
 //! of the inputs whose name holds NAME. Real notes are looked for below
-//! `target/notes` or the folder named. The search draws further documents for so
-//! many minutes (0), from a seed (1).
+//! `target/notes` or the folder named. The search first tries documents of so many
+//! bytes (4096), and draws further ones for so many minutes (0), from a seed (1).
 
 mod document;
 mod documents;
 mod inputs;
 mod links;
+mod named;
 mod notes;
 mod pass;
+mod search;
+mod shapes;
 mod show;
 mod single;
 mod texts;
@@ -29,6 +32,7 @@ fn main() {
     let words = Words::of_command_line();
     match words.command.as_str() {
         "single" => single::run(&words),
+        "search" => search::run(&words),
         _ => document::run(&words),
     }
 }

@@ -1,4 +1,4 @@
-//! Figures in columns.
+//! Figures in columns, and what stands beside them.
 
 use crate::time::Time;
 
@@ -17,4 +17,22 @@ pub fn value(number: Option<f64>, width: usize, digits: usize) -> String {
         Some(number) => format!("{number:>width$.digits$}"),
         None => format!("{:>width$}", "-"),
     }
+}
+
+/// Whether a figure is within its bar, where it has one.
+pub fn held(figure: f64, bar: Option<f64>) -> String {
+    match bar {
+        Some(bar) if figure <= bar => format!(", bar {bar}: met"),
+        Some(bar) => format!(", bar {bar}: missed"),
+        None => String::new(),
+    }
+}
+
+/// The machine's kind.
+pub fn machine() -> String {
+    let text = std::fs::read_to_string("/proc/cpuinfo").unwrap_or_default();
+    let mut kinds = text.lines().filter(|line| line.starts_with("model name"));
+    let kind = kinds.next().and_then(|line| line.split(": ").nth(1));
+    let kind = kind.unwrap_or("a processor of unknown kind");
+    format!("{kind}, {} of them", 1 + kinds.count())
 }

@@ -97,3 +97,25 @@ pub fn times<const N: usize>(samples: u32, mut calls: [&mut dyn FnMut(); N]) -> 
     }
     all.map(Samples::time)
 }
+
+/// The times of several calls, in each of several runs.
+pub struct Runs<const N: usize>(pub Vec<[Time; N]>);
+
+impl<const N: usize> Runs<N> {
+    fn over(&self, value: impl Fn(&[Time; N]) -> f64) -> Spread {
+        Spread::of(self.0.iter().map(value).collect())
+    }
+
+    /// The median of one call over the runs, with the median of their spreads.
+    pub fn time(&self, call: usize) -> Time {
+        Time {
+            median: self.over(|run| run[call].median).median,
+            spread: self.over(|run| run[call].spread).median,
+        }
+    }
+
+    /// One call's time over another's, as the runs have it.
+    pub fn ratio(&self, call: usize, other: usize) -> Spread {
+        self.over(|run| run[call].median / run[other].median)
+    }
+}

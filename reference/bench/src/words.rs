@@ -10,6 +10,8 @@ pub struct Words {
     pub runs: u32,
     /// Where real notes are.
     pub notes: PathBuf,
+    /// The length of the search's short documents.
+    pub bytes: usize,
     pub minutes: f64,
     pub seed: u64,
     /// A part of the names of the inputs.
@@ -30,6 +32,7 @@ impl Words {
             samples: 11,
             runs: 5,
             notes: target.into(),
+            bytes: 1 << 12,
             minutes: 0.0,
             seed: 1,
             part: String::new(),
@@ -41,6 +44,7 @@ impl Words {
                 "--samples" => said.samples = behind(&word, &mut words),
                 "--runs" => said.runs = behind(&word, &mut words),
                 "--notes" => said.notes = behind(&word, &mut words),
+                "--bytes" => said.bytes = behind(&word, &mut words),
                 "--minutes" => said.minutes = behind(&word, &mut words),
                 "--seed" => said.seed = behind(&word, &mut words),
                 _ if word.starts_with("--") => panic!("{word} is no option"),
