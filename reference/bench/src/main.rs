@@ -3,12 +3,13 @@
 //!
 //!     bench [document] [--samples N] [--runs N] [--notes FOLDER] [NAME]
 //!     bench single [--samples N] [NAME]
-//!     bench search [--samples N] [--bytes N] [--minutes N] [--seed N]
+//!     bench search [--samples N] [--bytes N] [--without TEXT] [--minutes N] [--seed N]
 //!
 //! N samples are taken of each (11), and all of them again in each of N runs (5),
 //! of the inputs whose name holds NAME. Real notes are looked for below
 //! `target/notes` or the folder named. The search first tries documents of so many
-//! bytes (4096), and draws further ones for so many minutes (0), from a seed (1).
+//! bytes (4096), and draws further ones for so many minutes (0), from a seed (1); with
+//! TEXT, of what stands between heads and tails only that without it.
 
 mod document;
 mod documents;

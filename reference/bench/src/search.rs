@@ -3,12 +3,13 @@
 //! each kind of body the slowest is kept. The slowest of these are called once at
 //! full length, and the slowest of them timed, in turn with plain prose.
 
+use crate::documents::INPUTS;
 use crate::named::{LENGTHS, WAYS, make};
 use crate::shapes::{Body, HEADS, PIECES, SHORT_HEADS, Shape, TAILS, TOKENS, joined};
 use crate::show::{held, machine};
 use crate::texts::{PROSE, repeated};
 use crate::time::times;
-use crate::whole::Areas;
+use crate::whole::{Areas, text};
 use crate::words::Words;
 use driver::document::DOCUMENT_MAX;
 use driver::random::Random;
@@ -27,6 +28,8 @@ const BAR: f64 = 100.0;
 struct Search {
     /// The length of the short documents.
     short: usize,
+    /// What no body holds.
+    without: Option<String>,
     areas: Areas,
     heads: Vec<Vec<u8>>,
     slowest: HashMap<(u32, Option<usize>), (f64, Shape)>,
@@ -35,9 +38,11 @@ struct Search {
 }
 
 impl Search {
-    fn new(short: usize) -> Search {
+    fn new(words: &Words) -> Search {
+        let short = words.bytes;
         Search {
             short,
+            without: words.without.clone(),
             areas: Areas::new(),
             heads: HEADS.iter().map(|head| head.make(short)).collect(),
             slowest: HashMap::new(),
@@ -49,6 +54,11 @@ impl Search {
     /// Tries a body with heads and tails, all short.
     fn try_body(&mut self, body: &Body, heads: &[usize], tails: &[usize]) {
         let middle = body.make(self.short);
+        if let Some(without) = &self.without
+            && text(&middle).contains(without)
+        {
+            return;
+        }
         let mut doc = Vec::new();
         for &head in heads {
             for &tail in tails {
@@ -150,6 +160,15 @@ fn named() -> Vec<(String, Vec<u8>)> {
     list
 }
 
+/// The inputs of the benchmark that are one document, of full length.
+fn known() -> Vec<(String, Vec<u8>)> {
+    let one = INPUTS.iter().filter_map(|input| {
+        let [doc] = <[_; 1]>::try_from((input.make)(DOCUMENT_MAX)).ok()?;
+        Some((input.name.into(), doc))
+    });
+    one.collect()
+}
+
 /// Times documents in turn with plain prose, and prints the slowest first.
 fn show(list: Vec<(String, Vec<u8>)>, samples: u32) {
     let prose = repeated(PROSE, DOCUMENT_MAX);
@@ -192,7 +211,7 @@ fn show(list: Vec<(String, Vec<u8>)>, samples: u32) {
 pub fn run(words: &Words) {
     println!("{}", machine());
     let began = Instant::now();
-    let mut search = Search::new(words.bytes);
+    let mut search = Search::new(words);
     search.all(1, None, HEADS.len());
     search.all(2, None, HEADS.len());
     search.say(began, "all units of one and two tokens");
@@ -213,5 +232,6 @@ pub fn run(words: &Words) {
     }
     let mut list = search.slowest();
     list.extend(named());
+    list.extend(known());
     show(list, words.samples);
 }

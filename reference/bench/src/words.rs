@@ -12,6 +12,8 @@ pub struct Words {
     pub notes: PathBuf,
     /// The length of the search's short documents.
     pub bytes: usize,
+    /// What the bodies of the search do not hold.
+    pub without: Option<String>,
     pub minutes: f64,
     pub seed: u64,
     /// A part of the names of the inputs.
@@ -33,6 +35,7 @@ impl Words {
             runs: 5,
             notes: target.into(),
             bytes: 1 << 12,
+            without: None,
             minutes: 0.0,
             seed: 1,
             part: String::new(),
@@ -45,6 +48,7 @@ impl Words {
                 "--runs" => said.runs = behind(&word, &mut words),
                 "--notes" => said.notes = behind(&word, &mut words),
                 "--bytes" => said.bytes = behind(&word, &mut words),
+                "--without" => said.without = Some(behind(&word, &mut words)),
                 "--minutes" => said.minutes = behind(&word, &mut words),
                 "--seed" => said.seed = behind(&word, &mut words),
                 _ if word.starts_with("--") => panic!("{word} is no option"),
