@@ -1,73 +1,69 @@
-//! Documents of many names for the search: definitions, aliases and references
-//! of names that are alike up to their ends, or from their starts on.
+//! Documents of many names for the search: definitions and references of names
+//! that begin alike or end alike.
 
-/// Ways to fill a document with names of that many bytes or some more.
-pub const WAYS: [Way; 8] = [
+/// A way to fill a document: a line for each name, then another for each.
+pub struct Way {
+    pub name: &'static str,
+    first: Line,
+    second: Line,
+}
+
+/// The line for one of the names; it may be empty.
+type Line = fn(&[String], usize) -> String;
+
+pub const WAYS: [Way; 9] = [
     Way {
         name: "aliases to the next, then a destination",
-        lines: |names| chain(names, false),
-    },
-    Way {
-        name: "a destination, then aliases to the one before",
-        lines: |names| chain(names, true),
-    },
-    Way {
-        name: "aliases to the next, in a ring",
-        lines: |names| {
-            let last = names.len() - 1;
-            (0..=last)
-                .map(|k| alias(&names[k], &names[if k == last { 0 } else { k + 1 }]))
-                .collect()
+        first: forwards,
+        second: |names, k| match k {
+            0 => refer(&names[0]),
+            _ => String::new(),
         },
     },
     Way {
-        name: "aliases to no name",
-        lines: |names| names.iter().map(|name| alias(name, "none")).collect(),
+        name: "aliases to the next, then a destination, each referred to",
+        first: forwards,
+        second: |names, k| refer(&names[k]),
+    },
+    Way {
+        name: "a destination, then aliases to the one before, each referred to",
+        first: |names, k| match k {
+            0 => target(&names[0]),
+            _ => alias(&names[k], &names[k - 1]),
+        },
+        second: |names, k| refer(&names[k]),
+    },
+    Way {
+        name: "aliases to the next, in a ring, each referred to",
+        first: |names, k| alias(&names[k], &names[(k + 1) % names.len()]),
+        second: |names, k| refer(&names[k]),
+    },
+    Way {
+        name: "aliases to no name, each referred to",
+        first: |names, k| alias(&names[k], "none"),
+        second: |names, k| refer(&names[k]),
     },
     Way {
         name: "destinations, each referred to",
-        lines: |names| {
-            let half = &names[..names.len() / 2];
-            let targets = half.iter().map(|name| target(name));
-            targets.chain(half.iter().map(|name| refer(name))).collect()
-        },
+        first: |names, k| target(&names[k]),
+        second: |names, k| refer(&names[k]),
     },
     Way {
         name: "destinations, the last referred to again and again",
-        lines: |names| {
-            let half = &names[..names.len() / 2];
-            let targets = half.iter().map(|name| target(name));
-            targets
-                .chain(half.iter().map(|_| refer(&half[half.len() - 1])))
-                .collect()
-        },
+        first: |names, k| target(&names[k]),
+        second: |names, _| refer(&names[names.len() - 1]),
     },
     Way {
-        name: "references to no name behind destinations",
-        lines: |names| {
-            let (targets, references) = names.split_at(names.len() / 2);
-            let targets = targets.iter().map(|name| target(name));
-            targets
-                .chain(references.iter().map(|name| refer(name)))
-                .collect()
-        },
+        name: "destinations, and references to none of them",
+        first: |names, k| target(&names[k]),
+        second: |names, k| refer(&format!("{}x", names[k])),
     },
     Way {
-        name: "aliases to the next and references to each",
-        lines: |names| {
-            let half = &names[..names.len() / 2];
-            let mut lines = chain(half, false);
-            lines.extend(half.iter().map(|name| refer(name)));
-            lines
-        },
+        name: "embedded links that define names",
+        first: |names, k| format!("`{} <u>`_\n", names[k]),
+        second: |_, _| String::new(),
     },
 ];
-
-pub struct Way {
-    pub name: &'static str,
-    /// Lines of which no name is in more than two.
-    lines: fn(&[String]) -> Vec<String>,
-}
 
 /// The lengths of names that are tried.
 pub const LENGTHS: [usize; 9] = [3, 8, 12, 16, 22, 25, 50, 200, 900];
@@ -84,30 +80,24 @@ fn refer(name: &str) -> String {
     format!("{name}_\n")
 }
 
-fn chain(names: &[String], back: bool) -> Vec<String> {
-    let (last, others) = names.split_last().expect("some names");
-    let aliases = others
-        .iter()
-        .zip(&names[1..])
-        .map(|(name, next)| alias(name, next));
-    let mut lines: Vec<_> = aliases.chain([target(last)]).collect();
-    if back {
-        lines.reverse();
+fn forwards(names: &[String], k: usize) -> String {
+    match names.get(k + 1) {
+        Some(next) => alias(&names[k], next),
+        None => target(&names[k]),
     }
-    lines.push(refer(&names[0]));
-    lines
 }
 
-/// The document with as many names as there is room for; the names begin alike, or
-/// end alike.
+/// The document with as many names as there may be and as there is room for.
 pub fn make(way: &Way, length: usize, begin: bool, len: usize) -> Vec<u8> {
+    let same = "n".repeat(length - 3);
     let name = |k: usize| match begin {
-        true => format!("{}{k:03}", "n".repeat(length - 3)),
-        false => format!("{k:03}{}", "n".repeat(length - 3)),
+        true => format!("{same}{k:03}"),
+        false => format!("{k:03}{same}"),
     };
     let fits = |count: usize| {
         let names: Vec<_> = (0..count).map(name).collect();
-        let text = (way.lines)(&names).concat();
+        let lines = |line: Line| (0..count).map(|k| line(&names, k)).collect::<String>();
+        let text = lines(way.first) + &lines(way.second);
         (text.len() <= len).then(|| text.into_bytes())
     };
     (2..=256).rev().find_map(fits).unwrap_or_default()

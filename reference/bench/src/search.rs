@@ -8,7 +8,7 @@ use crate::named::{LENGTHS, WAYS, make};
 use crate::shapes::{Body, HEADS, PIECES, SHORT_HEADS, Shape, TAILS, TOKENS, joined};
 use crate::show::{held, machine};
 use crate::texts::{PROSE, repeated};
-use crate::time::times;
+use crate::time::{now, times};
 use crate::whole::{Areas, text};
 use crate::words::Words;
 use driver::document::DOCUMENT_MAX;
@@ -88,9 +88,9 @@ impl Search {
     }
 
     fn timed(&mut self, doc: &[u8]) -> f64 {
-        let began = Instant::now();
+        let began = now();
         let outcome = self.areas.call(black_box(doc));
-        let seconds = began.elapsed().as_secs_f64();
+        let seconds = now() - began;
         assert!(matches!(outcome.number, 0 | 5 | 6), "of the domain");
         self.refused += usize::from(outcome.number != 0);
         seconds

@@ -1,9 +1,9 @@
-//! Times of a call: the median of several samples, and their spread.
-
-use std::time::{Duration, Instant};
+//! Times of a call: the median of several samples, and their spread. All times are
+//! in seconds of this thread on a processor, so that what else the machine runs is
+//! not in them.
 
 /// A sample repeats a call until it takes at least so long.
-const SAMPLE: Duration = Duration::from_micros(500);
+const SAMPLE: f64 = 500e-6;
 
 /// Samples of calls that take long are fewer, so that they take at most so long
 /// together, but at least three.
@@ -16,12 +16,28 @@ pub struct Samples {
     seconds: Vec<f64>,
 }
 
-fn timed(repeat: u32, call: &mut dyn FnMut()) -> Duration {
-    let began = Instant::now();
+unsafe extern "C" {
+    fn clock_gettime(clock: i32, time: *mut [i64; 2]) -> i32;
+}
+
+/// The clock of a thread's time on a processor, on Linux.
+const THREAD_CLOCK: i32 = 3;
+
+/// The seconds that this thread has had so far.
+pub fn now() -> f64 {
+    let mut time = [0; 2];
+    // The call writes seconds and nanoseconds, each of 64 bits on x86-64.
+    let failed = unsafe { clock_gettime(THREAD_CLOCK, &mut time) };
+    assert_eq!(failed, 0, "there is such a clock");
+    time[0] as f64 + time[1] as f64 * 1e-9
+}
+
+fn timed(repeat: u32, call: &mut dyn FnMut()) -> f64 {
+    let began = now();
     for _ in 0..repeat {
         call();
     }
-    began.elapsed()
+    now() - began
 }
 
 impl Samples {
@@ -35,13 +51,12 @@ impl Samples {
             time = timed(repeat, call);
         }
         let seconds = Vec::new();
-        (Samples { repeat, seconds }, time.as_secs_f64())
+        (Samples { repeat, seconds }, time)
     }
 
     fn take(&mut self, call: &mut dyn FnMut()) {
         let time = timed(self.repeat, call);
-        self.seconds
-            .push(time.as_secs_f64() / f64::from(self.repeat));
+        self.seconds.push(time / f64::from(self.repeat));
     }
 
     fn time(self) -> Time {
