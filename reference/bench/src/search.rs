@@ -223,8 +223,8 @@ pub fn run(words: &Words) {
     search.all(3, None, SHORT_HEADS);
     search.say(began, "and all of three tokens");
     let mut random = Random::new(words.seed);
-    let end = Instant::now();
-    while end.elapsed().as_secs_f64() < words.minutes * 60.0 {
+    let drawing = Instant::now();
+    while drawing.elapsed().as_secs_f64() < words.minutes * 60.0 {
         search.draw(&mut random);
     }
     if words.minutes > 0.0 {
