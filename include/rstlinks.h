@@ -1,8 +1,11 @@
 /* rstlinks: the links of a note in reStructuredText, as packed records.
  *
  * rst_document() reads a whole note and writes one record for each of its
- * links. rst_take_link() finds one link from a place on, unresolved. Link with
- * librstlinks_c.a; nothing else is needed but memcpy and memset.
+ * links. rst_take_link() finds one link from a place on, unresolved.
+ *
+ * Link with librstlinks_c.a, which is for x86-64 Linux and C's calling convention
+ * there. It has these two functions and no variables, and needs no other functions
+ * but memcpy and memset.
  *
  * What a caller relies on
  *
@@ -11,17 +14,19 @@
  *   state of its own. So threads may call at the same time, each with areas of
  *   its own; the document may be shared, since it is only read.
  * - A call always returns. It has no conditions on lengths, places, options or
- *   contents: what cannot be done is refused by a number (below).
+ *   contents: what cannot be done is refused by a number (below). Some documents
+ *   take a time that grows with the square of their length (docs/BENCHMARKS.md).
  * - A pointer and the length behind it, counted in elements, are one area. It
  *   must be the caller's for all of that length, and `numbers` aligned for
- *   uint32_t. An area of length 0 may have any pointer, NULL too.
+ *   uint32_t; the others may start anywhere. An area of length 0 may have any
+ *   pointer, NULL too.
  * - The areas of one call must not overlap, the document among them.
  * - The work areas may hold anything before rst_document(). Behind it every
  *   element of both is 0, whatever their lengths and whatever was returned.
  * - Refused, the output (or both string buffers) keeps every byte. Accepted, it
  *   begins with what was asked for, and all bytes behind that keep their values.
  * - The same arguments give the same answer and the same bytes.
- * - rst_take_link() needs some 17 KiB of stack, rst_document() less.
+ * - A call takes no more stack than RST_DOCUMENT_STACK or RST_TAKE_LINK_STACK.
  *
  * Documents
  *
@@ -45,6 +50,32 @@
  * h >> 34 & 0x7FFF, h >> 19 & 0x7FFF and h >> 4 & 0x7FFF. A link's place is the
  * sum of skipped and consumed of all records before it, and its own skipped. The
  * strings are UTF-8 and not ended by zero; either may be empty.
+ *
+ * Example
+ *
+ * The links of a note of NOTE_LEN bytes (the README has the whole program):
+ *
+ *   static uint32_t numbers[RST_NUMBERS_MIN];
+ *   static uint8_t bytes[RST_BYTES_MIN], output[RST_OUTPUT_ENOUGH(NOTE_LEN)];
+ *
+ *   rst_outcome r = rst_document(note, NOTE_LEN, 0, numbers, RST_NUMBERS_MIN,
+ *                                bytes, RST_BYTES_MIN, output, sizeof output);
+ *   if (r.number != RST_ACCEPTED) {
+ *       return 1;
+ *   }
+ *   const uint8_t *at = output;
+ *   size_t end = 0;
+ *   for (uint32_t i = 0; i < r.links; i++) {
+ *       uint64_t head = 0;
+ *       for (int k = 0; k < RST_RECORD_HEAD; k++) {
+ *           head = head << 8 | *at++;
+ *       }
+ *       size_t place = end + (head >> 49), consumed = head >> 34 & 0x7FFF;
+ *       int text = head >> 19 & 0x7FFF, destination = head >> 4 & 0x7FFF;
+ *       // here the text stands at `at`, the destination at `at + text`
+ *       at += text + destination;
+ *       end = place + consumed;
+ *   }
  *
  * Appended notes
  *
@@ -95,6 +126,12 @@ extern "C" {
 
 /* A buffer that suffices for either string of rst_take_link(). */
 #define RST_STRING_MAX 16384
+
+/* Bytes of stack that a call takes at most, on every document: the longest way
+ * through the archive's code. A thread needs so much beside what its own functions,
+ * memcpy and memset take. */
+#define RST_DOCUMENT_STACK 2048
+#define RST_TAKE_LINK_STACK 18432
 
 /* What is returned as number. Both calls check in the order in which their
  * refusals stand here, from the top; RST_TOO_MANY_LINKS and
