@@ -8,7 +8,6 @@
  * call, in bytes below the frame of its caller; memcpy and memset are among them.
  * The status is 1 where one is more than the header states. */
 #include <pthread.h>
-#include <unistd.h>
 
 #include "notes.h"
 
