@@ -9,6 +9,7 @@ use crate::claim::{
 use crate::document::Garbage;
 use crate::documents::{self, Kind};
 use crate::inputs::sequences;
+use crate::notes;
 use crate::pairs::{self, Known, Short};
 use crate::pairs_met::PairsMet;
 use crate::test::Count;
@@ -18,6 +19,9 @@ use driver::show;
 
 /// How many tails each drawn first gets.
 const TAILS: usize = 4;
+
+/// At how many line ends a real note is cut in two, at most.
+const CUTS: usize = 4;
 
 /// A pair: a first document and a tail.
 #[derive(Clone)]
@@ -249,6 +253,7 @@ impl Tally {
         let garbage = Garbage::new(&mut Random::new(0));
         let mut reader = Reader::new(&garbage);
         let (tried, refused) = (self.tried, self.refused);
+        count.pairs += tried;
         count.say(format_args!(
             "appended tails: {tried} pairs, {refused} of them refused, of the others"
         ));
@@ -318,6 +323,16 @@ impl Pairs<'_> {
         }
     }
 
+    /// A document cut in two at some of its line ends.
+    fn cut(&mut self, doc: &[u8]) {
+        let ends: Vec<usize> = (0..doc.len()).filter(|n| doc[*n] == b'\n').collect();
+        for place in ends.iter().step_by(1 + ends.len() / CUTS) {
+            if let Some(first) = self.reader.read(doc[..*place].to_vec()) {
+                self.pair(&first, &doc[place + 1..]);
+            }
+        }
+    }
+
     /// A drawn first with some tails.
     fn draw(&mut self, random: &mut Random, kind: &Kind) {
         let first = (kind.draw)(random);
@@ -337,7 +352,7 @@ impl Pairs<'_> {
 }
 
 /// All short pairs; the cases of the papers and the documents near the limits,
-/// with some tails each.
+/// with some tails each; real notes cut in two.
 pub fn all(count: &mut Count, tally: &mut Tally) {
     let mut random = Random::new(0);
     let garbage = Garbage::new(&mut random);
@@ -347,13 +362,24 @@ pub fn all(count: &mut Count, tally: &mut Tally) {
         pairs.end(count, tally);
     }
     let kinds = [
-        ("the cases of the papers", documents::cases(), 10 * TAILS),
+        (
+            "the cases of the papers and rare ones",
+            documents::cases(),
+            10 * TAILS,
+        ),
         ("firsts near the limits", documents::limits(), 2 * TAILS),
     ];
     for (kind, firsts, tails) in kinds {
         let mut pairs = Pairs::new(kind, &garbage);
         for first in firsts {
             pairs.tails(&mut random, first, tails);
+        }
+        pairs.end(count, tally);
+    }
+    if let Some(docs) = notes::documents(count) {
+        let mut pairs = Pairs::new("real notes cut at line ends", &garbage);
+        for doc in docs {
+            pairs.cut(&doc);
         }
         pairs.end(count, tally);
     }

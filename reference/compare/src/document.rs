@@ -1,11 +1,13 @@
 //! The document call: both options and wrong ones, outputs and work areas of
 //! several lengths.
 
+use crate::branches::document;
 use crate::documents::{self, Kind};
 use crate::met::DocumentsMet;
+use crate::notes;
 use crate::test::{Answered, Count, Test};
 use compare::proved;
-use driver::document::{BYTES_MIN, DOCUMENT_MAX, NUMBERS_MIN, Outcome, document};
+use driver::document::{BYTES_MIN, DOCUMENT_MAX, NUMBERS_MIN, Outcome};
 use driver::random::Random;
 use std::fmt;
 
@@ -261,7 +263,7 @@ impl Calls<'_> {
     }
 }
 
-/// All short documents, the cases of the papers, and the limits.
+/// All short documents, the cases of the papers, the limits, and real notes.
 pub fn all(count: &mut Count, met: &mut DocumentsMet) {
     let garbage = Garbage::new(&mut Random::new(0));
     for (kind, alphabet, most) in documents::SHORT {
@@ -276,7 +278,7 @@ pub fn all(count: &mut Count, met: &mut DocumentsMet) {
             "bytes in and out of the domain",
             documents::domain_bytes().step_by(20).collect(),
         ),
-        ("the cases of the papers", documents::cases()),
+        ("the cases of the papers and rare ones", documents::cases()),
         ("near the limits", documents::limits()),
     ];
     for (kind, docs) in kinds {
@@ -284,6 +286,14 @@ pub fn all(count: &mut Count, met: &mut DocumentsMet) {
         for doc in docs {
             calls.thorough(&doc);
         }
+        calls.end(count, met);
+    }
+    if let Some(docs) = notes::documents(count) {
+        let mut calls = Calls::new("real notes", &garbage, GUARD);
+        for doc in docs {
+            calls.document(&doc);
+        }
+        count.notes += calls.documents;
         calls.end(count, met);
     }
 }

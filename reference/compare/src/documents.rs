@@ -51,8 +51,27 @@ const CHAINS: &[&str] = &[
     ".. _\\ : a_\n",
 ];
 
+/// Escapes that one parser reads and a later one refuses: in destinations, and
+/// where an underscore or a blank behind a backslash is cut off.
+const REFUSED: &[&str] = &[
+    "`a <", "b", "\\_", "\\ ", "_", ">`_", ">`__", "__ ", ".. _c: ", "`c\\_`_", "\n   ",
+];
+
+/// Documents that reach branches that few do.
+const RARE: [&str; 9] = [
+    "`a <\\_b>`_",
+    "`a <\\_b>`__",
+    "`a <b\\_>`_",
+    "`a\\ <b>`_",
+    "`a\\ <b>`__",
+    "`a\\ <b_>`_",
+    "__ `c\\_`_",
+    "__ `c\\_`_\n   d",
+    "`a <b>`_ __ c_\n   d",
+];
+
 /// Alphabets for the single-link call, and how many tokens at most.
-pub const ALPHABETS: [(&str, &[&str], u32); 9] = [
+pub const ALPHABETS: [(&str, &[&str], u32); 10] = [
     ("all of up to five bytes of the grammar", &BYTES, 5),
     ("all of up to six bytes around backticks", BACKTICKS, 6),
     ("all of up to four tokens of inline forms", &INLINE, 4),
@@ -61,6 +80,7 @@ pub const ALPHABETS: [(&str, &[&str], u32); 9] = [
     ("all of up to five tokens before references", OPENINGS, 5),
     ("all of up to four tokens of stops", STOPS, 4),
     ("all of up to four links and blocks", FOLLOWED, 4),
+    ("all of up to four tokens of refused escapes", REFUSED, 4),
     (
         "all of up to five characters of the domain's ends",
         DOMAIN,
@@ -69,11 +89,12 @@ pub const ALPHABETS: [(&str, &[&str], u32); 9] = [
 ];
 
 /// Alphabets for the document call, and how many tokens at most.
-pub const SHORT: [(&str, &[&str], u32); 6] = [
+pub const SHORT: [(&str, &[&str], u32); 7] = [
     ("all of up to four bytes of the grammar", &BYTES, 4),
     ("all of up to four tokens of inline forms", &INLINE, 4),
     ("all of up to four tokens of blocks", &BLOCKS, 4),
     ("all of up to four links and blocks", FOLLOWED, 4),
+    ("all of up to four tokens of refused escapes", REFUSED, 4),
     ("all of up to four lines", &LINES, 4),
     ("all of up to five lines of aliases", CHAINS, 5),
 ];
@@ -93,9 +114,10 @@ pub fn domain_bytes() -> impl Iterator<Item = Vec<u8>> {
     limit_bytes().step_by(5)
 }
 
-/// The documents of 01's cases and its readings'.
+/// The documents of 01's cases and its readings', and rare ones.
 pub fn cases() -> Vec<Vec<u8>> {
-    driver::cases::documents().map(|case| case.doc).collect()
+    let cases = driver::cases::documents().map(|case| case.doc);
+    cases.chain(RARE.map(Vec::from)).collect()
 }
 
 /// Documents near every limit.

@@ -1,6 +1,7 @@
 //! Compares the proved pieces and parsers, the single-link call and the document
-//! call with the Rust's own, on inputs of several kinds; and looks for pairs of
-//! documents that speak against the claim about appended tails.
+//! call with the Rust's own, on inputs of several kinds; looks for pairs of
+//! documents that speak against the claim about appended tails; and counts the
+//! branches of the Rust that its calls reach.
 //!
 //!     compare [--seconds N] [--minutes N] [--documents N] [--pairs N] [--seed N]
 //!             [--only PART]
@@ -13,25 +14,29 @@
 //! there are two. With `--documents`, the document call goes on until so many
 //! documents are drawn; with `--pairs`, appended tails until so many pairs are
 //! drawn that meet all premises of the claim. `--only` names one of `parsers`,
-//! `single`, `document`, `appended`, which then has all the time. A piece, a
-//! parser, a call or the claim on one kind of inputs is one test; the last line
-//! counts them.
+//! `single`, `document`, `appended`, which then has all the time; the branches are
+//! asked for only where all have been tried. A piece, a parser, a call or the claim
+//! on one kind of inputs is one test; the last line counts them, and the one before
+//! it the documents.
 //!
 //! `--sample` makes some fifty thousand calls of both kinds, whose areas end
 //! where their allocations do, for a tool that watches memory.
 
 mod appended;
+mod branches;
 mod claim;
 mod document;
 mod documents;
 mod inputs;
 mod met;
+mod notes;
 mod pairs;
 mod pairs_met;
 mod parsers;
 mod pieces;
 mod single;
 mod test;
+mod unreachable;
 mod writer;
 
 use appended::Tally;
@@ -141,6 +146,7 @@ fn main() {
             single_links(&mut count, seed, time);
             count.print();
         }
+        counted::hand_over();
         count
     };
     let whole = || {
@@ -153,6 +159,7 @@ fn main() {
             appended_tails(&mut count, seed, time, pairs);
             count.print();
         }
+        counted::hand_over();
         count
     };
     let mut count = Count::default();
@@ -166,6 +173,11 @@ fn main() {
             count.join(&small());
             count.join(&documents.join().expect("the half of whole documents"));
         });
+        if only.is_none() {
+            branches::end(&mut count);
+        }
+        count.total();
+        count.print();
     }
     println!("{} passed, {} failed", count.passed, count.failed);
     std::process::exit(i32::from(count.failed > 0 || count.passed == 0));

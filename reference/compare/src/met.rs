@@ -8,8 +8,11 @@ use driver::single::{KINDS, Single};
 /// The refusals of the single-link call, in its order.
 const REFUSALS: [&str; 6] = ["2", "4", "8", "9", "7 for the first", "7 for the second"];
 
+/// What was met by the single-link call: in how many documents; how often each of
+/// the five cases, and each refusal.
 #[derive(Default)]
 pub struct Met {
+    documents: u64,
     cases: [u64; 5],
     refusals: [u64; 6],
 }
@@ -39,7 +42,8 @@ impl Met {
         self.counts().map(|(_, count)| count).sum()
     }
 
-    pub fn join(&mut self, other: &Met) {
+    pub fn join(&mut self, other: &Met, documents: u64) {
+        self.documents += documents;
         for (mine, theirs) in self.cases.iter_mut().zip(other.cases) {
             *mine += theirs;
         }
@@ -48,12 +52,13 @@ impl Met {
         }
     }
 
-    /// Says how many calls there were, by answer; that each answer was met is a
-    /// test of its own.
+    /// Says how many documents and calls there were, these by answer; that each
+    /// answer was met is a test of its own.
     pub fn end(self, count: &mut Count) {
+        let (documents, calls) = (self.documents, self.calls());
+        count.documents += documents;
         count.say(format_args!(
-            "the single-link call: {} calls, which gave",
-            self.calls()
+            "the single-link call: {documents} documents, {calls} calls, which gave"
         ));
         for (name, met) in self.counts() {
             count.say(format_args!("  {name}: {met}"));
@@ -179,6 +184,7 @@ impl DocumentsMet {
     pub fn end(self, count: &mut Count) {
         let calls: u64 = self.numbers.iter().sum();
         let documents = self.documents;
+        count.documents += documents;
         count.say(format_args!(
             "the document call: {documents} documents, {calls} calls, which gave"
         ));

@@ -1,9 +1,10 @@
 //! The parsers of restructured_text.rs.
 
+use crate::branches::parser;
 use crate::test::{Count, Test};
 use compare::proved;
 use driver::forms;
-use driver::parsers::{PARSERS, has_scratch, name, parser};
+use driver::parsers::{PARSERS, has_scratch, name};
 use driver::random::Random;
 
 /// Tests of the parsers, one for each of them.

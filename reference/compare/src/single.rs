@@ -1,12 +1,14 @@
 //! The single-link call, at every place of a document.
 
+use crate::branches::{all_counted, take_link_at};
 use crate::documents;
 use crate::met::Met;
+use crate::notes;
 use crate::test::{Answered, Count, Test};
 use compare::proved;
 use driver::document::DOCUMENT_MAX;
 use driver::random::Random;
-use driver::single::{Single, take_link_at};
+use driver::single::Single;
 use std::fmt;
 
 /// The bytes behind each lent buffer that are looked at too. A sample has none:
@@ -69,6 +71,8 @@ fn lent(
 struct Calls {
     test: Test,
     guard: usize,
+    /// How many documents there were.
+    documents: u64,
     /// What the buffers held before the last call.
     byte: u8,
     met: Met,
@@ -79,6 +83,7 @@ impl Calls {
         Calls {
             test: Test::new(&format!("the single-link call, {kind}")),
             guard: GUARD,
+            documents: 0,
             byte: 0,
             met: Met::default(),
         }
@@ -143,6 +148,7 @@ impl Calls {
     /// Every place of a document, the one past its end, and far ones. Of a long
     /// document the calls with other buffers are made at some 500 places.
     fn document(&mut self, doc: &[u8]) {
+        self.documents += 1;
         let step = 1 + doc.len() / 500;
         for place in 0..=doc.len() + 1 {
             if place.is_multiple_of(step) {
@@ -158,6 +164,7 @@ impl Calls {
 
     /// The same at some places, and near the front and the end.
     fn sampled(&mut self, doc: &[u8], step: usize) {
+        self.documents += 1;
         for place in 0..=doc.len() + 1 {
             if place.is_multiple_of(step) || place < 10 || place + 10 > doc.len() {
                 self.at(doc, place);
@@ -170,11 +177,11 @@ impl Calls {
 
     fn end(self, count: &mut Count, met: &mut Met) {
         count.end(self.test);
-        met.join(&self.met);
+        met.join(&self.met, self.documents);
     }
 }
 
-/// All short documents, the cases of the papers, and the limits.
+/// All short documents, the cases of the papers, the limits, and real notes.
 pub fn all(count: &mut Count, met: &mut Met) {
     for (kind, alphabet, most) in documents::ALPHABETS {
         let mut calls = Calls::new(kind);
@@ -188,16 +195,26 @@ pub fn all(count: &mut Count, met: &mut Met) {
         calls.document(&doc);
     }
     calls.end(count, met);
-    let mut calls = Calls::new("the cases of the papers");
-    for doc in documents::cases() {
-        calls.sampled(&doc, 1 + doc.len() / 500);
-    }
+    let mut calls = Calls::new("the cases of the papers and rare ones");
+    all_counted(|| {
+        for doc in documents::cases() {
+            calls.sampled(&doc, 1 + doc.len() / 500);
+        }
+    });
     calls.end(count, met);
     let mut calls = Calls::new("near the limits");
     for doc in documents::limits() {
         calls.sampled(&doc, 1 + doc.len() / 100);
     }
     calls.end(count, met);
+    if let Some(docs) = notes::documents(count) {
+        let mut calls = Calls::new("real notes");
+        for doc in docs {
+            calls.sampled(&doc, 1 + doc.len() / 20);
+        }
+        count.notes += calls.documents;
+        calls.end(count, met);
+    }
 }
 
 /// Some documents at some places, with buffers that end where their allocations

@@ -72,11 +72,15 @@ impl Test {
     }
 }
 
-/// The tests so far, passed and failed, and the lines to print of them.
+/// The tests so far, passed and failed; the documents read by either call, those of
+/// them cut from real notes, and the appended pairs; the lines to print.
 #[derive(Default)]
 pub struct Count {
     pub passed: u64,
     pub failed: u64,
+    pub documents: u64,
+    pub notes: u64,
+    pub pairs: u64,
     lines: String,
 }
 
@@ -93,6 +97,17 @@ impl Count {
     pub fn join(&mut self, other: &Count) {
         self.passed += other.passed;
         self.failed += other.failed;
+        self.documents += other.documents;
+        self.notes += other.notes;
+        self.pairs += other.pairs;
+    }
+
+    /// Says how many documents and pairs there were.
+    pub fn total(&mut self) {
+        let (documents, notes, pairs) = (self.documents, self.notes, self.pairs);
+        self.say(format_args!(
+            "in all {documents} documents, {notes} of them cut from real notes; {pairs} appended pairs"
+        ));
     }
 
     /// A test that holds or does not.
