@@ -7,7 +7,7 @@
 //!
 //! N samples are taken of each (11), and all of them again in each of N runs (5),
 //! of the inputs whose name holds NAME. Real notes are looked for below
-//! `target/notes` or the folder named. The search first tries documents of so many
+//! `target/reference/notes` or the folder named. The search first tries documents of so many
 //! bytes (4096), and draws further ones for so many minutes (0), from a seed (1); with
 //! TEXT, of what stands between heads and tails only that without it.
 

@@ -28,7 +28,7 @@ fn behind<T: FromStr>(option: &str, words: &mut impl Iterator<Item = String>) ->
 
 impl Words {
     pub fn of_command_line() -> Words {
-        let target = concat!(env!("CARGO_MANIFEST_DIR"), "/../../target/notes");
+        let target = concat!(env!("CARGO_MANIFEST_DIR"), "/../../target/reference/notes");
         let mut said = Words {
             command: "document".into(),
             samples: 11,
