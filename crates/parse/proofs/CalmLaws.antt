@@ -252,3 +252,6 @@ skips-none i s h = (le-refl i, h, λ d start. absurd (omega arith))
 pub calm-next : (i j : ℕ) (s : List ℕ) → Calm i j s → isStop 0x5F 0x60 (getD s j 0) ≡ false → Calm i (j + 1) s
 calm-next i j s q e k a b =
     ⊎-elim (λ c. q k a c) (λ c. let z : k ≡ j = omega arith in ap (λ (n : ℕ). isStop 0x5F 0x60 (getD s n 0)) z ∙ e) (lt-or-le k j)
+
+pub calm-join : (i j k : ℕ) (s : List ℕ) → Calm i j s → Calm j k s → Calm i k s
+calm-join i j k s q r n a b = ⊎-elim (λ c. q n a c) (λ c. r n c b) (lt-or-le n j)

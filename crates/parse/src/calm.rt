@@ -6,7 +6,7 @@ ghost use mathlib.Core.Bool.{true};
 ghost use Prim.Native.Nat.{_≤_, _<_};
 ghost use lib.ListN.{length};
 ghost use Rattle.rst_bytes.specs.Escaped.{isStop};
-ghost use Rattle.parse.specs.Inner.{Edge, Skips};
+ghost use Rattle.parse.specs.Inner.{Calm, Edge, Skips};
 
 // The place where the next round starts; and the place behind the first `_` or backtick, before which there is no other line to pass.
 pub struct Ahead {
@@ -38,6 +38,25 @@ fn ends_line(s: &[u8], j: usize) -> bool
     !is_start(last)
 }
 
+// The first `_`, backtick or LF from place i on, or the end.
+fn stop_from(s: &[u8], i: usize) -> usize
+    requires { ⌜ i ≤ length (now s) ⌝ }
+    ensures { λ r. ⌜ (i ≤ r) × (r ≤ length (now (s .entry))) × Calm i r (now (s .entry)) ⌝ }
+{
+    let mut j = i;
+    while j < s.len() {
+        let b = s[j];
+        if is_mark(b) {
+            return j;
+        }
+        if b == b'\n' {
+            return j;
+        }
+        j = j + 1;
+    }
+    j
+}
+
 // Passes the lines from place i on that have neither `_` nor backtick, unless it was looked for those up to a later place.
 pub fn calm(s: &[u8], i: usize, looked: usize) -> Ahead
     requires { ⌜ i ≤ length (now s) ⌝ }
@@ -49,18 +68,22 @@ pub fn calm(s: &[u8], i: usize, looked: usize) -> Ahead
     let mut next = i;
     let mut j = i;
     while j < s.len() {
-        let b = s[j];
+        let k = stop_from(s, j);
+        if s.len() <= k {
+            return Ahead { next: k, looked: k };
+        }
+        let b = s[k];
         if is_mark(b) {
             return Ahead {
                 next,
-                looked: j + 1,
+                looked: k + 1,
             };
         }
-        if ends_line(s, j) {
-            next = j;
-            j = j + 1;
+        if ends_line(s, k) {
+            next = k;
+            j = k + 1;
         } else {
-            j = j + 1;
+            j = k + 1;
         }
     }
     Ahead { next: j, looked: j }

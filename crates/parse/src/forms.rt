@@ -14,23 +14,23 @@ ghost use Rattle.parse.specs.Link.{scannedOf, Ends, behind};
 ghost use Rattle.parse.specs.Forms.{tried, rst};
 ghost use Rattle.parse.specs.Scan.{consumedOf, followed};
 
-// An alias block, else a destination block.
+// An alias block, else a destination block. No block is both, and most are destinations: so these are tried first.
 pub fn block(s: &[u8], skipped: usize, scratch: &mut [u8]) -> Scan
     requires { ⌜ length (now s) ≤ length (now scratch) ⌝ }
     ensures scan { λ r. ⌜ scannedOf r (now (scratch .exit)) ≡ behind skipped (tried (rst .blocks) (now (s .entry))) ⌝ }
     ensures ends { λ r. ⌜ Ends r ⌝ }
 {
-    match rst_label2label(s, scratch) {
+    match rst_label2dest(s, scratch) {
         Strings::Found(a, b, n) => {
-            return Scan::Found(Link::Label2Label(a, b, skipped, n));
+            return Scan::Found(Link::Label2Dest(a, b, skipped, n));
         }
         Strings::NotFound => {}
         Strings::NoRoom => {
             return Scan::NoRoom;
         }
     }
-    match rst_label2dest(s, scratch) {
-        Strings::Found(a, b, n) => Scan::Found(Link::Label2Dest(a, b, skipped, n)),
+    match rst_label2label(s, scratch) {
+        Strings::Found(a, b, n) => Scan::Found(Link::Label2Label(a, b, skipped, n)),
         Strings::NotFound => Scan::NotFound,
         Strings::NoRoom => Scan::NoRoom,
     }
