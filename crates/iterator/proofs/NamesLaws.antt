@@ -1,9 +1,9 @@
 -- The laws of names: which is anonymous, the bytes of a numbered one, and that two are the same, byte by byte.
 -- Assumes nothing.
-use Prim.Native.Nat.{ℕ, suc, _+_, _-_, _/_, _<_, _≤_}
-use mathlib.Core.Path.{_≡_, refl, sym, ap, subst, _∙_}
+use Prim.Native.Nat.{ℕ, zero, suc, _+_, _-_, _/_, _<_, _≤_}
+use mathlib.Core.Path.{_≡_, refl, sym, ap, ap₂, subst, _∙_}
 use mathlib.Core.List.{List, [], _∷_, _++_}
-use mathlib.Core.Bool.{Bool, true, false, _&&_, and-false}
+use mathlib.Core.Bool.{Bool, true, false, _&&_, and-true, and-false, and-assoc}
 use native.Mathlib.Nat.{zero-add}
 use native.Mathlib.Omega.{arith}
 use lib.Dec.{eqb, ltb}
@@ -141,42 +141,66 @@ same-first :
 unfolding same
 same-first w m n k h g = rw (drop-cons w m 0 h, drop-cons w n 0 g)
 
--- The first i of len bytes from m on and from n on are the same: what the rest is decides.
+-- and by the last of each
+same-last :
+    (w : List ℕ) (k m n : ℕ) → m + k < length w → n + k < length w
+    → same (take (suc k) (drop m w)) (take (suc k) (drop n w))
+    ≡ (same (take k (drop m w)) (take k (drop n w)) && eqb (getD w (m + k) 0) (getD w (n + k) 0))
+unfolding same
+same-last w zero m n h g =
+    let e : m + 0 ≡ m = omega arith in
+    let f : n + 0 ≡ n = omega arith in
+    same-first w m n 0 (omega arith) (omega arith)
+    ∙ and-true (eqb (getD w m 0) (getD w n 0))
+    ∙ ap₂ (λ (i j : ℕ). eqb (getD w i 0) (getD w j 0)) (sym e) (sym f)
+same-last w (suc k) m n h g =
+    let e : suc m + k ≡ m + suc k = omega arith in
+    let f : suc n + k ≡ n + suc k = omega arith in
+    let first = eqb (getD w m 0) (getD w n 0) in
+    let between = same (take k (drop (suc m) w)) (take k (drop (suc n) w)) in
+    same-first w m n (suc k) (omega arith) (omega arith)
+    ∙ ap (λ (t : Bool). first && t) (same-last w k (suc m) (suc n) (omega arith) (omega arith))
+    ∙ sym (and-assoc first between (eqb (getD w (suc m + k) 0) (getD w (suc n + k) 0)))
+    ∙ ap₂ _&&_ (sym (same-first w m n k (omega arith) (omega arith))) (ap₂ (λ (i j : ℕ). eqb (getD w i 0) (getD w j 0)) e f)
+
+-- Of len bytes from m on and from n on those behind the first i are the same: what the first are decides.
 pub record Alike (w : List ℕ) (m n len i : ℕ) : Type 0 where
   pub within : i ≤ len
-  pub holds :
-      same (take len (drop m w)) (take len (drop n w)) ≡ same (take (len - i) (drop (m + i) w)) (take (len - i) (drop (n + i) w))
+  pub holds : same (take len (drop m w)) (take len (drop n w)) ≡ same (take i (drop m w)) (take i (drop n w))
 
 module _ (w : List ℕ) (m n len : ℕ) where
-  pub alike-none : Alike w m n len 0
-  alike-none =
-      let e : m + 0 ≡ m = omega arith in
-      let f : n + 0 ≡ n = omega arith in
-      let g : len - 0 ≡ len = omega arith in
-      record { within = omega arith; holds = rw (e, f, g) }
+  pub alike-none : Alike w m n len len
+  alike-none = record { within = omega arith; holds = refl }
 
-  pub alike-all : (i : ℕ) → Alike w m n len i → len ≤ i → true ≡ same (take len (drop m w)) (take len (drop n w))
+  pub alike-all : (i : ℕ) → Alike w m n len i → i ≤ 0 → true ≡ same (take len (drop m w)) (take len (drop n w))
   unfolding same
-  alike-all i v l = let e : len - i ≡ 0 = omega arith in sym (v .holds ∙ rw e)
+  alike-all i v l = let e : i ≡ 0 = omega arith in sym (v .holds ∙ rw e)
 
   module _ (i : ℕ) (h : m + len ≤ length w) (g : n + len ≤ length w) (v : Alike w m n len i) where
     alike-next :
-        i < len
+        0 < i
         → same (take len (drop m w)) (take len (drop n w))
-        ≡ (eqb (getD w (m + i) 0) (getD w (n + i) 0)
-        && same (take (len - (i + 1)) (drop (m + (i + 1)) w)) (take (len - (i + 1)) (drop (n + (i + 1)) w)))
+        ≡ (same (take (i - 1) (drop m w)) (take (i - 1) (drop n w)) && eqb (getD w (m + (i - 1)) 0) (getD w (n + (i - 1)) 0))
     alike-next l =
-        let a : len - i ≡ suc (len - (i + 1)) = omega arith in
-        let b : m + (i + 1) ≡ suc (m + i) = omega arith in
-        let c : n + (i + 1) ≡ suc (n + i) = omega arith in
-        v .holds ∙ rw (a, b, c) (same-first w (m + i) (n + i) (len - (i + 1)) (omega arith) (omega arith))
+        let e : i ≡ suc (i - 1) = omega arith in
+        v .holds
+        ∙ ap (λ (k : ℕ). same (take k (drop m w)) (take k (drop n w))) e
+        ∙ same-last w (i - 1) m n (omega (arith, v .within)) (omega (arith, v .within))
 
-    pub alike-more : i < len → getD w (m + i) 0 ≡ getD w (n + i) 0 → Alike w m n len (i + 1)
+    pub alike-more : 0 < i → getD w (m + (i - 1)) 0 ≡ getD w (n + (i - 1)) 0 → Alike w m n len (i - 1)
     alike-more l e =
+        let first = same (take (i - 1) (drop m w)) (take (i - 1) (drop n w)) in
         record {
-          within = omega arith;
-          holds = alike-next l ∙ rw (eq-eqb (getD w (m + i) 0) (getD w (n + i) 0) e);
+          within = omega (arith, v .within);
+          holds =
+              alike-next l
+              ∙ ap (λ (t : Bool). first && t) (eq-eqb (getD w (m + (i - 1)) 0) (getD w (n + (i - 1)) 0) e)
+              ∙ and-true first;
         }
 
-    pub alike-other : i < len → (getD w (m + i) 0 ≡ getD w (n + i) 0 → ⊥) → false ≡ same (take len (drop m w)) (take len (drop n w))
-    alike-other l e = sym (alike-next l ∙ rw (ne-eqb (getD w (m + i) 0) (getD w (n + i) 0) e))
+    pub alike-other :
+        0 < i → (getD w (m + (i - 1)) 0 ≡ getD w (n + (i - 1)) 0 → ⊥)
+        → false ≡ same (take len (drop m w)) (take len (drop n w))
+    alike-other l e =
+        let first = same (take (i - 1) (drop m w)) (take (i - 1) (drop n w)) in
+        sym (alike-next l ∙ ap (λ (t : Bool). first && t) (ne-eqb (getD w (m + (i - 1)) 0) (getD w (n + (i - 1)) 0) e) ∙ and-false first)

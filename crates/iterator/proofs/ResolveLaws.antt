@@ -5,12 +5,15 @@ use Prim.Native.Nat.{ℕ, suc, _+_, _-_, _<_, _≤_}
 use native.Mathlib.Omega.{arith}
 use mathlib.Core.Path.{_≡_, refl, ap, sym, _∙_}
 use mathlib.Core.List.{List, [], _∷_, _++_}
-use mathlib.Core.Bool.{true, false}
+use mathlib.Core.Bool.{Bool, true, false}
 use lib.ListN.{length, take, drop, length-append, take-append-drop}
 use lib.Seq.{take-length, drop-length, take-append-le, drop-append-le}
 use Rattle.iterator.specs.Collect.{Pair, pair}
-use Rattle.iterator.specs.Resolve.{same, Destination, has, none, lookup, search, resolveFrom, resolveAliases}
+use Rattle.iterator.specs.Resolve.{same, has, none, lookup, search, resolveFrom, resolveAliases}
 use Rattle.iterator.specs.Inner.{resumed, goesOn}
+
+has-not-none : {d : List ℕ} → has d ≡ none → ⊥
+has-not-none e = let z : _≡_ {A = ℕ} 0 1 = cc in omega arith
 
 -- Looking up: the last that was stored is seen first
 module _ (name : List ℕ) (x : Pair) where
@@ -24,18 +27,15 @@ module _ (name : List ℕ) (x : Pair) where
   lookup-past [] e = rw (e, lookup)
   lookup-past (y ∷ xs) e = rw (lookup-past xs e)
 
--- what a name has with one pair before those in which it has d
-abbrev pub lookupPast : List ℕ → Pair → Destination → Destination
-lookupPast name x d = elim d [ has d ↦ has d | none ↦ elim (same (x .name) name) [ true ↦ has (x .to) | false ↦ none ] ]
-
--- a name that has nothing has nothing behind the first pair
-pub none-behind : (name : List ℕ) (x : Pair) (xs : List Pair) → lookup name (x ∷ xs) ≡ none → lookup name xs ≡ none
-unfolding lookup
-none-behind name x xs e = past (lookup name xs) e
-  where
-    past : (d : Destination) → lookupPast name x d ≡ none → d ≡ none
-    past (has d) f = f
-    past none f = refl
+  -- a name that has nothing has nothing without the last
+  pub lookup-fewer : (xs : List Pair) → lookup name (xs ++ x ∷ []) ≡ none → lookup name xs ≡ none
+  lookup-fewer xs e = by (same (x .name) name) (lookup-here xs) (lookup-past xs)
+    where
+      by :
+          (t : Bool) → (t ≡ true → lookup name (xs ++ x ∷ []) ≡ has (x .to))
+          → (t ≡ false → lookup name (xs ++ x ∷ []) ≡ lookup name xs) → lookup name xs ≡ none
+      by true f g = absurd (has-not-none (sym (f refl) ∙ e))
+      by false f g = sym (g refl) ∙ e
 
 -- The walk: with the next alias x, those ahead of it, and those that were missed
 module _ (stored : List Pair) where

@@ -2,7 +2,6 @@
 -- the end.
 -- Assumes nothing.
 use Prim.Native.Nat.{ℕ, zero, suc, _+_, _-_, _*_, _<_, _≤_}
-use native.Mathlib.Nat.{not-suc-le-zero}
 use native.Mathlib.Omega.{arith}
 use mathlib.Core.Path.{_≡_, refl, ap, ap₂, sym, subst, subst⁻¹, _∙_}
 use mathlib.Core.List.{List, [], _∷_, _++_, map, append-assoc, append-nil}
@@ -62,12 +61,21 @@ use Rattle.iterator.proofs.RowsLaws.{
   pair-small,
   map-snoc,
 }
-use Rattle.iterator.proofs.ResolveLaws.{lookup-here, lookup-past, lookupPast, none-behind, goes-start, goes-stop, goes-miss, goes-hit}
+use Rattle.iterator.proofs.ResolveLaws.{lookup-here, lookup-past, lookup-fewer, goes-start, goes-stop, goes-miss, goes-hit}
 
 pub length-pairs : (n a : ℕ) (t : List ℕ) → length (pairRows n a t) ≡ n
 unfolding pairRows
 length-pairs zero a t = refl
 length-pairs (suc n) a t = ap suc (length-pairs n (a + 4) t)
+
+-- one row more that is stored
+one-more :
+    (t w : List ℕ) (n : ℕ)
+    → pairsOf (n + 1) destinationsAt t w
+    ≡ pairsOf n destinationsAt t w ++ pairOf w (pairAt t (destinationsAt + 4 * n)) ∷ []
+one-more t w n =
+    ap (map (pairOf w)) (pairs-snoc n destinationsAt t)
+    ∙ map-snoc (pairOf w) (pairRows n destinationsAt t) (pairAt t (destinationsAt + 4 * n))
 
 -- Looking up, from the last row back: of the first i rows the last is r
 module _ (t w : List ℕ) (name : Span) (i : ℕ) (r : PairRow) where
@@ -77,8 +85,7 @@ module _ (t w : List ℕ) (name : Span) (i : ℕ) (r : PairRow) where
   last-row h e =
       let f : i ≡ (i - 1) + 1 = omega arith in
       ap (λ n. pairsOf n destinationsAt t w) f
-      ∙ ap (map (pairOf w)) (pairs-snoc (i - 1) destinationsAt t)
-      ∙ map-snoc (pairOf w) (pairRows (i - 1) destinationsAt t) (pairAt t (destinationsAt + 4 * (i - 1)))
+      ∙ one-more t w (i - 1)
       ∙ ap (λ (x : PairRow). pairsOf (i - 1) destinationsAt t w ++ pairOf w x ∷ []) (sym e)
 
   pub row-same :
@@ -99,16 +106,18 @@ pub row-within :
     → PairsWithin room (pairRows n destinationsAt t) → PairWithin room r
 row-within n t i r h g e b = subst⁻¹ (PairWithin room) e (pairs-within-at room n destinationsAt (i - 1) t (omega arith) b)
 
--- a name that none of n rows has, none of the first m of them has
+-- a name that none of n rows has, none of the first m has, where the others are k
 none-fewer :
-    (w name : List ℕ) (m n a : ℕ) (t : List ℕ) → m ≤ n → lookup name (pairsOf n a t w) ≡ none
-    → lookup name (pairsOf m a t w) ≡ none
-unfolding lookup pairRows
-none-fewer w name zero n a t h e = refl
-none-fewer w name (suc m) zero a t h e = absurd (not-suc-le-zero h)
-none-fewer w name (suc m) (suc n) a t h e =
-    let f = none-behind name (pairOf w (pairAt t a)) (pairsOf n (a + 4) t w) e in
-    ap (lookupPast name (pairOf w (pairAt t a))) (none-fewer w name m n (a + 4) t (omega arith) f ∙ sym f) ∙ e
+    (t w name : List ℕ) (m k n : ℕ) → n ≡ m + k → lookup name (pairsOf n destinationsAt t w) ≡ none
+    → lookup name (pairsOf m destinationsAt t w) ≡ none
+none-fewer t w name m zero n h e =
+    let f : n ≡ m = omega arith in
+    subst (λ i. lookup name (pairsOf i destinationsAt t w) ≡ none) f e
+none-fewer t w name m (suc k) n h e =
+    let f : n ≡ m + k + 1 = omega arith in
+    let g = ap (λ i. pairsOf i destinationsAt t w) f ∙ one-more t w (m + k) in
+    let x = pairOf w (pairAt t (destinationsAt + 4 * (m + k))) in
+    none-fewer t w name m k (m + k) refl (lookup-fewer name x (pairsOf (m + k) destinationsAt t w) (ap (lookup name) (sym g) ∙ e))
 
 -- Aliases whose targets have no destination: where nothing is stored, with one more, and as the rows are that say them
 without-stored : (aliases : List Pair) → Without [] aliases
@@ -266,7 +275,7 @@ module _ (t w : List ℕ) (v : Walk) (p : Tryable t w v) (x : PairRow) (e : x �
   passed-more g =
       subst⁻¹ (Without (pairsOf (v .fresh) destinationsAt t w)) (map-snoc (pairOf w) (pairRows (v .passed) aliasesAt t) x)
       (without-snoc (pairsOf (v .fresh) destinationsAt t w) (pairsOf (v .passed) aliasesAt t w) (pairOf w x) (p .0 .passed-without)
-      (none-fewer w (part (x .to) w) (v .fresh) (v .destinations) destinationsAt t (p .0 .fresh-few) g))
+      (none-fewer t w (part (x .to) w) (v .fresh) (v .destinations - v .fresh) (v .destinations) (omega (arith, p .0 .fresh-few)) g))
 
   passed-walking :
       lookup (part (x .to) w) (storedIn t w v) ≡ none → Walking (putPair t (aliasesAt + 4 * v .passed) x) w (passedOne v)

@@ -50,7 +50,7 @@ pub fn write_numbered(number: u32, bytes: &mut [u8]) -> usize
     4
 }
 
-// Whether two parts of the work bytes are the same.
+// Whether two parts of the work bytes are the same. They are compared from the end, since names that are alike often differ in a number there.
 pub fn same_name(bytes: &[u8], a: Span, b: Span) -> bool
     requires { ⌜ (a .start + a .len ≤ length (now bytes)) × (b .start + b .len ≤ length (now bytes)) ⌝ }
     ensures { λ r. ⌜ r ≡ same (part a (now (bytes .entry))) (part b (now (bytes .entry))) ⌝ }
@@ -58,12 +58,10 @@ pub fn same_name(bytes: &[u8], a: Span, b: Span) -> bool
     if a.len == b.len {
         let m = a.start;
         let n = b.start;
-        let len = a.len;
-        let mut i = 0;
-        while i < len {
-            if bytes[m + i] == bytes[n + i] {
-                i += 1;
-            } else {
+        let mut i = a.len;
+        while 0 < i {
+            i -= 1;
+            if bytes[m + i] != bytes[n + i] {
                 return false;
             }
         }

@@ -42,8 +42,8 @@ pub enum Lookup {
     NotThere,
 }
 
-// The destination of a name. The names with their destinations are the first n rows of their table; those before `from` are known not to
-// have the name, and are not looked at.
+// The destination of a name. The names with their destinations are the first n rows of their table; those before row `from` are known to
+// be others, and are not looked at.
 pub fn destination_of(name: Span, from: usize, n: usize, numbers: &[u32], bytes: &[u8]) -> Lookup
     requires { ⌜ Lookable name from n (now numbers) (now bytes) ⌝ }
     ensures found { λ r. ⌜ foundOf r (now (bytes .entry)) ≡ lookup (part name (now (bytes .entry))) (pairsOf n destinationsAt (now (numbers .entry)) (now (bytes .entry))) ⌝ }
@@ -63,8 +63,8 @@ pub fn destination_of(name: Span, from: usize, n: usize, numbers: &[u32], bytes:
 }
 
 // Where the walk through the aliases is: of their table the rows before `passed` and those from `next` to `end` are left; so many were
-// missed in a row; so many names have a destination. Of these the first `known` have no target of an alias from `next` to `end`, and the
-// first `fresh` have none of an alias before `passed`: rows that need not be looked at again.
+// missed in a row; so many names have a destination. Of these names the first `known` are no target of an alias from `next` to `end`, and
+// the first `fresh` none of an alias before `passed`: their rows need not be looked at again.
 pub struct Walk {
     pub passed: usize,
     pub next: usize,

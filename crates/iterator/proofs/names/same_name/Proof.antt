@@ -1,6 +1,5 @@
--- `same_name` meets its contract: parts of two lengths are not the same; of one length, the first i bytes are the same after i turns.
+-- `same_name` meets its contract: parts of two lengths are not the same; of one length, the bytes behind the first i are the same.
 -- Assumes nothing.
-use Prim.Native.Nat.{_-_}
 use mathlib.Core.Path.{_∙_}
 use native.Mathlib.Omega.{arith}
 use Rattle.iterator.proofs.NamesLaws.{Alike, alike-none, alike-more, alike-other, alike-all, part-lengths, part-same}
@@ -8,13 +7,16 @@ use Rattle.iterator.proofs.names.same_name.Statement.{statement}
 use Rattle.iterator.proofs.names.same_name.Tie as tie
 
 abbrev Inv-loop : tie.InvT-loop
-Inv-loop bytes m n len i₀ i = Alike bytes m n len i
+Inv-loop bytes m n i₀ i = Alike bytes m n i₀ i
 
 abbrev μ-loop : tie.MeasureT-loop
-μ-loop bytes m n len i₀ i = len - i
+μ-loop bytes m n i₀ i = i
 
 loop-holds : tie.Need-loop-holds Inv-loop μ-loop
 loop-holds c = alike-none _ _ _ _
+
+sub-i : tie.Need-sub-i Inv-loop μ-loop
+sub-i c = omega arith
 
 add-if2 : tie.Need-add-if2 Inv-loop μ-loop
 add-if2 c = omega arith
@@ -28,8 +30,12 @@ add-if2-2 c = omega arith
 shared-slice-read-if2-2 : tie.Need-shared-slice-read-if2-2 Inv-loop μ-loop
 shared-slice-read-if2-2 c = omega arith
 
-add-i : tie.Need-add-i Inv-loop μ-loop
-add-i c = omega arith
+returns : tie.Need-returns Inv-loop μ-loop
+returns c =
+    let l = c .before .before .before in
+    let s = l .before .before .before .before .before in
+    alike-other _ _ _ _ _ (s .pre .0) (omega arith) (l .before .loop .inv) (l .loop-test .taken) (c .if2 .taken)
+    ∙ part-same (s .args .a) (s .args .b) (s .args .bytes .now) (l .before .before .if1 .taken)
 
 loop-less : tie.Need-loop-less Inv-loop μ-loop
 loop-less c = omega arith
@@ -38,14 +44,7 @@ loop-again : tie.Need-loop-again Inv-loop μ-loop
 loop-again c =
     let l = c .before .before .before in
     let s = l .before .before .before .before .before in
-    alike-more _ _ _ _ _ (s .pre .0) (omega arith) (l .before .loop .inv) (l .loop-test .taken) (c .if2 .taken)
-
-returns : tie.Need-returns Inv-loop μ-loop
-returns c =
-    let l = c .before .before .before in
-    let s = l .before .before .before .before .before in
-    alike-other _ _ _ _ _ (s .pre .0) (omega arith) (l .before .loop .inv) (l .loop-test .taken) (c .if2 .left)
-    ∙ part-same (s .args .a) (s .args .b) (s .args .bytes .now) (l .before .before .if1 .taken)
+    alike-more _ _ _ _ _ (s .pre .0) (omega arith) (l .before .loop .inv) (l .loop-test .taken) (c .if2 .left)
 
 returns-2 : tie.Need-returns-2 Inv-loop μ-loop
 returns-2 c =
@@ -65,13 +64,13 @@ same-name-spec =
     Inv-loop
     μ-loop
     loop-holds
+    sub-i
     add-if2
     shared-slice-read-if2
     add-if2-2
     shared-slice-read-if2-2
-    add-i
+    returns
     loop-less
     loop-again
-    returns
     returns-2
     returns-3)
