@@ -7,12 +7,12 @@ import re
 from ours import DOCUMENT_MAX
 
 TOKENS = ["a", "_", "`", " ", "\n", ".. ", "__ ", "<u>", ":", "\\", "(", "*", "|", "[1]", "http://a"]
-MORE_TOKENS = ["a", "_", "`", " ", "\n", "\r", "\t", "\f", "\x85", "\u00a0", "\u00ab", "-", "{", ".", "@", "é", ".. _b: ", "__ ", " <u>`_",
-               "a_", "::", "=", "'", "  ", "`_", "`__", "<a_>`_"]
+MORE_TOKENS = ["a", "_", "`", " ", "\n", "\r", "\t", "\f", "\x85", "\u00a0", "\u00ab", "-", "{", ".", "@", "é", ".. _b: ", "__ ",
+               " <u>`_", "a_", "::", "=", "'", "  ", "`_", "`__", "<a_>`_"]
 NAMES = ["a", "b", "Ab", "a b", "a.b", "a-b", "é", "_1", "a:b"]
 DESTINATIONS = ["u", "http://a/b", "u v", "a@b.c", "u\\_", "b_", "`a b`_", ""]
-STARTS = ["* ", "   ", ".. ", "::", "::\n\n  ", ">>> ", "a\n=\n", "| ", ":a: ", "1. ", "-x  ", "a\n  ", ".. note:: ", ".. image:: ",
-          ".. [1] ", ".. |s| replace:: ", "+---+\n|a_ |\n+---+\n", "=== ===\na_  b_\n=== ===\n"]
+STARTS = ["* ", "   ", ".. ", "::", "::\n\n  ", ">>> ", "a\n=\n", "| ", ":a: ", "1. ", "-x  ", "a\n  ", ".. note:: ",
+          ".. image:: ", ".. [1] ", ".. |s| replace:: ", "+---+\n|a_ |\n+---+\n", "=== ===\na_  b_\n=== ===\n"]
 OUTSIDE = re.compile("[^\0-\u024f]")
 
 
@@ -36,6 +36,19 @@ def drawn(seed):
     for number in itertools.count():
         lines = "\n".join(_line(draw) for _ in range(draw.randint(1, 6)))
         yield (_damaged(draw, lines) if number % 4 == 3 else lines).encode()
+
+
+def defining(seed):
+    """Documents whose references and targets both sides read alike: some blocks, then a text, without end."""
+    draw = random.Random(seed)
+    while True:
+        blocks = []
+        for _ in range(draw.randint(0, 5)):
+            start = draw.choice([f".. _{draw.choice('abc')}: "] * 4 + ["__ ", ".. _`_1`: "])
+            blocks.append(start + draw.choice(["u", "v", "a_", "b_", "c_", ""]))
+        forms = ["a_", "b_", "c_", "a__", "`a <u>`_", "`b <v>`_", "`x <a_>`_", "`_1`_", "b__"]
+        text = " ".join(draw.choice(forms) for _ in range(draw.randint(1, 4)))
+        yield "\n".join([*blocks, "", text]).encode()
 
 
 def _line(draw):

@@ -3,7 +3,7 @@
 import re
 
 from facts import (END, SKIPPED, Kind, behind_our_link, blank_inside_backticks, character_behind, has_lone_cr, has_other_blank,
-                   has_other_line_end, is_simple_name, normal, over_text_blocks, raw, squeezed, unescaped_backticks)
+                   has_other_line_end, inline_at, is_simple_name, normal, over_text_blocks, raw, squeezed, unescaped_backticks)
 from items import EMBEDDED, REFERENCES, TARGETS
 
 
@@ -40,9 +40,11 @@ KINDS_BOTH = [
     Kind("case and blanks of a name", "`A  b`_", _same_sort(lambda o, t, x: _names(o) == _names(t))),
     Kind("mail address", "`x <a@b.c>`_", _same_sort(lambda o, t, x: t.second == "mailto:" + o.second)),
     Kind("blank inside the backticks", "`a_ `_", lambda x: blank_inside_backticks(raw(x, x.ours))),
-    Kind("backtick inside a phrase", "`a`b`_", lambda x: x.theirs.sort in REFERENCES and unescaped_backticks(raw(x, x.theirs)) > 2),
+    Kind("backtick inside a phrase", "`a`b`_", _sorts(REFERENCES, REFERENCES,
+                                                      lambda o, t, x: unescaped_backticks(raw(x, t)) > 2)),
     Kind("inside a phrase", "`\\a b_`_", _sorts(REFERENCES, REFERENCES, lambda o, t, x: o.start > t.start
                                                 and raw(x, t)[:1] == "`" and raw(x, o)[:1] != "`")),
+    Kind("inside interpreted text", "`x a_`", lambda x: inline_at(x, x.ours.start) not in (None, "problematic")),
     Kind("directly behind a link", "`a`_b_", _sorts(REFERENCES, REFERENCES, lambda o, t, x: o.start < t.start
                                                     and behind_our_link(x, o.start))),
     Kind("behind a phrase", "`a`_b", _sorts(REFERENCES, REFERENCES, lambda o, t, x: raw(x, o)[:1] == "`" != raw(x, t)[:1]
@@ -51,29 +53,32 @@ KINDS_BOTH = [
                                                                      x.sides.before(o.start) in set(SKIPPED))),
     Kind("text left out", "`<u>`_", _sorts(PLAIN, EMBEDDED, lambda o, t, x: re.match(r"`\s*<", raw(x, t)))),
     Kind("escaped blank before the bracket", "`a\\ <u>`_", _sorts(PLAIN, EMBEDDED, lambda o, t, x: "\\ <" in raw(x, t))),
-    Kind("bracket in the text of an embedded link", "`a< <u>`_", _sorts(PLAIN, EMBEDDED, lambda o, t, x: raw(x, t).count("<") > 1)),
+    Kind("bracket in the text of an embedded link", "`a< <u>`_", _sorts(PLAIN, EMBEDDED,
+                                                                        lambda o, t, x: raw(x, t).count("<") > 1)),
     Kind("embedded alias with two underscores", "`x <a_>`__", _sorts(["anonymous"], ["embedded alias"])),
     Kind("nothing before the bracket", "`a<u>`_", _sorts(EMBEDDED, PLAIN, lambda o, t, x: re.search(r"[^ \n]<", raw(x, o)))),
     Kind("blank behind the bracket", "`a < u>`_", _sorts(EMBEDDED, PLAIN, lambda o, t, x: re.search(r"<\s|\s>", raw(x, o)))),
     Kind("the name `_`", "`_`_", _sorts(["anonymous"], ["reference"], lambda o, t, x: o.first == "_")),
     Kind("block for the name `_`", ".. _\\_: u", _sorts(["anonymous target", "anonymous alias"], ["target", "alias"],
                                                         lambda o, t, x: t.first == "_")),
-    Kind("address that is a URI and ends in `_`", "`x <a:_>`_", _sorts(["embedded alias", "anonymous"], ["embedded", "embedded anonymous"],
-                                                                      lambda o, t, x: ":" in t.second)),
+    Kind("address that is a URI and ends in `_`", "`x <a:_>`_", _sorts(
+        ["embedded alias", "anonymous"], ["embedded", "embedded anonymous"], lambda o, t, x: ":" in t.second)),
     Kind("blanks behind the colon", ".. _a:  b_", _sorts(BLOCKS, ALIASES, lambda o, t, x: re.match(
         r"\s*(__|\.\. _.*:)( [ \t]|\s*\n)", raw(x, o)))),
     Kind("dot, colon or plus in an alias", ".. _a: b.c_", _sorts(BLOCKS, ALIASES, lambda o, t, x: re.search(r"[.:+]", t.second))),
     Kind("two underscores in an alias", ".. _a: b__", _sorts(ALIASES, BLOCKS, lambda o, t, x: t.second.endswith("__"))),
     Kind("further lines of an alias", ".. _a: b_\n v", _sorts(ALIASES, BLOCKS, lambda o, t, x: "\n" in raw(x, t).strip())),
-    Kind("text behind an alias", ".. _a: b_/c", _sorts(ALIASES, BLOCKS, lambda o, t, x: re.search(r"(: |__ ).*_\s*\S", raw(x, o)))),
+    Kind("text behind an alias", ".. _a: b_/c", _sorts(ALIASES, BLOCKS,
+                                                       lambda o, t, x: re.search(r"(: |__ ).*_\s*\S", raw(x, o)))),
     Kind("alias of a phrase", ".. _x: `a b`_", _sorts(ALIASES, ALIASES, lambda o, t, x: _squeezed(o) == _squeezed(t))),
     Kind("blank inside the backticks of an alias", ".. _a: `b `_", _sorts(ALIASES, BLOCKS, lambda o, t, x: re.search(
         r"(__|:) `(\s|.*\s`)", raw(x, o)))),
     Kind("no name in an alias", ".. _a: -_", _sorts(ALIASES, BLOCKS, lambda o, t, x: not is_simple_name(o.second))),
     Kind("backtick in an alias", ".. _x: `a`_`_", _sorts(TARGETS, ALIASES, lambda o, t, x: "`" in t.second)),
-    Kind("further lines", ".. _a: u\n v", _sorts(BLOCKS, BLOCKS, lambda o, t, x: o.start <= t.start and t.second.removeprefix("mailto:").startswith(o.second)
-                                                  and "\n" in raw(x, t).strip())),
-    Kind("block in a line that a block refuses", "..  _b: c\n .. _d: e", _sorts(TARGETS, TARGETS, lambda o, t, x: o.start > t.start)),
+    Kind("further lines", ".. _a: u\n v", _sorts(BLOCKS, BLOCKS, lambda o, t, x: (
+        o.start <= t.start and "\n" in raw(x, t).strip() and t.second.removeprefix("mailto:").startswith(o.second)))),
+    Kind("block in a line that a block refuses", "..  _b: c\n .. _d: e", _sorts(TARGETS, TARGETS,
+                                                                                lambda o, t, x: o.start > t.start)),
     Kind("backtick in a name", ".. _`a`b`: u", _sorts(TARGETS, TARGETS, lambda o, t, x: "`" in o.first)),
     Kind("escaped blank at the end of a destination", ".. _a: u\\ ", _sorts(BLOCKS, BLOCKS, lambda o, t, x: "\\ " in raw(x, o)
                                                                             and o.second.strip() == t.second.strip())),

@@ -89,10 +89,12 @@ KINDS_OURS = [
     Kind("inside an inline target", "_`x a_`", _in_item("inline target")),
     Kind("inside a standalone hyperlink", "a_@bb", _in_item("standalone")),
     Kind("reference with a role", ":a:`b <u>`_", lambda x: any(
-        name == "problematic" and start < x.ours.start < end and x.document[start:start + 1] == b":" for name, start, end in x.sides.reading.inlines)),
+        name == "problematic" and start < x.ours.start < end and x.document[start:start + 1] == b":"
+        for name, start, end in x.sides.reading.inlines)),
     Kind("line of underscores under a title", "a\n__", lambda x: not in_text(x, x.ours.start)
          and re.fullmatch(r"_+", line_of(x, x.ours.start).strip())),
-    Kind("inside an option", "-a b_  c", lambda x: not in_text(x, x.ours.start) and re.match(r"\s*[-+/]", line_of(x, x.ours.start))),
+    Kind("inside an option", "-a b_  c", lambda x: not in_text(x, x.ours.start)
+         and re.match(r"\s*[-+/]", line_of(x, x.ours.start))),
     Kind("inside a title or table with an error", "====\na_", lambda x: not in_text(x, x.ours.start) and _beside_adornment(x)),
     Kind("alias block behind a link", "a_ __ c_", lambda x: x.ours.sort in TARGETS and not starts_line(x, first_mark(x, x.ours))),
     Kind("block without an empty line before it", "x\n.. _b: c", lambda x: x.ours.sort in TARGETS),

@@ -2,8 +2,8 @@
 
 import re
 
-from facts import (ESCAPABLE, SKIPPED, Kind, end_of_reference, has_lone_cr, has_other_blank, has_other_line_end, line_before, our_link_around,
-                   over_text_blocks, raw, starts_line, unescaped_backticks)
+from facts import (ESCAPABLE, SKIPPED, Kind, end_of_reference, has_lone_cr, has_other_blank, has_other_line_end,
+                   line_before, our_link_around, over_text_blocks, raw, starts_line, unescaped_backticks)
 from items import EMBEDDED, REFERENCES, TARGETS
 
 
@@ -69,24 +69,26 @@ KINDS_THEIRS = [
         lambda x, text: text[:1] != "`" and re.search(r"[.:+]", text))),
     Kind("mark like an opening one before a reference", "/a_", _before(lambda mark, other: mark in set("-:/"))),
     Kind("brace before a reference", "{a_", _before(lambda mark, other: mark == "{")),
-    Kind("two opening marks before a reference", "((a_", _before(lambda mark, other: mark in set(SKIPPED) and other in set(SKIPPED))),
+    Kind("two opening marks before a reference", "((a_", _before(
+        lambda mark, other: mark in set(SKIPPED) and other in set(SKIPPED))),
     Kind("opening mark in a word", "x(a_", _before(lambda mark, other: mark in set(SKIPPED))),
     Kind("form feed or vertical tab before a reference", "\fa_", _before(lambda mark, other: mark in set("\f\v"))),
     Kind("cell of a table", "+---+\n|a_ |\n+---+", _before(lambda mark, other: mark == "|")),
     Kind("other white space before a reference", "\u00a0a_", _before(lambda mark, other: mark.isspace() and mark not in " \t\n")),
     Kind("other punctuation before a reference", "\u00aba_", _before(lambda mark, other: mark > "\x7f")),
     Kind("hyphen behind a reference", "a_-", _reference(lambda x, text: x.sides.behind(x.theirs.end) == "-")),
+    Kind("other blank in a block", ".. _a:\f", _block(lambda x, text: has_other_blank(x, x.theirs))),
     Kind("escape in a block", ".. _a: \\", _block(lambda x, text: re.search(rf"\\(?![{re.escape(ESCAPABLE)}])", text))),
     Kind("escaped `_` in a destination", ".. _a: u\\_", _block(lambda x, text: "\\_" in text)),
     Kind("tab as the blank of a block", ".. _a:\tu", _block(lambda x, text: re.match(r"(__|\.\. _.*:)\t", text))),
-    Kind("name over two lines", ".. _a\n b: u", _block(lambda x, text: not re.search(r":(\s|$)", text.split("\n")[0]))),
+    Kind("name over two lines", ".. _a\n b: u", _block(
+        lambda x, text: "\n" in text.strip() and not re.search(r":(\s|$)", text.split("\n")[0]))),
     Kind("escaped `_` in an address", "`x <u\\_>`_", _reference(lambda x, text: re.search(r"<.*\\_.*>`__?$", text))),
     Kind("escaped blank before the bracket", "`a\\ <u>`_", _reference(lambda x, text: "\\ <" in text)),
     Kind("escape", "`a\\xb`_", _reference(lambda x, text: re.search(rf"\\[^{re.escape(ESCAPABLE)}]", text))),
     Kind("backtick inside a phrase", "`a`b`_", _reference(lambda x, text: unescaped_backticks(text) > 2)),
-    Kind("other blank in a block", ".. _a:\f", _block(lambda x, text: has_other_blank(x, x.theirs))),
     Kind("blanks behind the dots", "..  _a: u", _block(lambda x, text: re.match(r"\.\.[ \t]{2,}|\.\.\t", text))),
     Kind("no blank behind the colon", ".. _a:", _block(lambda x, text: re.search(r":[ \t\r]*$", text.split("\n")[0]))),
     Kind("block in a list item", "* .. _b: c", _block(lambda x, text: not starts_line(x, x.theirs.start))),
-    Kind("colon in a plain name", ".. _a:b: u", _block(lambda x, text: re.match(r"\.\. _(?!`).*?:[^ ].*?:(\s|$)", text))),
+    Kind("colon in a plain name", ".. _a:b: u", _block(lambda x, text: re.match(r"\.\. _(:|(?!`).*?:[^ ]).*?:(\s|$)", text))),
 ]

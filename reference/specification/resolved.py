@@ -12,6 +12,7 @@ from docutils.core import publish_doctree
 import theirs
 from ours import DOCUMENT_MAX
 
+INSIDE = "a place of the document"
 NUMBERS, BYTES, OUTPUT, HEAD = 4096, 49152, 1 << 20, 8
 
 
@@ -32,30 +33,41 @@ class OurLinks:
         self._output = ctypes.create_string_buffer(OUTPUT)
 
     def links(self, document):
-        """The links of a document, as text and destination."""
+        """The links of a document, as place, text and destination."""
         assert len(document) <= DOCUMENT_MAX
         outcome = self._read(document, len(document), self._render, self._numbers, NUMBERS, self._bytes, BYTES,
                              self._output, OUTPUT)
         assert outcome.number == 0
-        records, links = ctypes.string_at(self._output, outcome.bytes), []
+        records, links, place = ctypes.string_at(self._output, outcome.bytes), [], 0
         while records:
             head = int.from_bytes(records[:HEAD], "big")
-            text, end = HEAD + (head >> 19 & 0x7FFF), HEAD + (head >> 19 & 0x7FFF) + (head >> 4 & 0x7FFF)
-            links.append(f"`{records[HEAD:text].decode()}` to `{records[text:end].decode()}`")
-            records = records[end:]
+            skipped, consumed, text, destination = (head >> by & 0x7FFF for by in (49, 34, 19, 4))
+            end = HEAD + text + destination
+            links.append((place + skipped, records[HEAD:HEAD + text].decode(), records[HEAD + text:end].decode()))
+            place, records = place + skipped + consumed, records[end:]
         return links
 
 
 def their_links(document):
-    """What docutils makes of each reference, and of each target or reference that it calls problematic."""
+    """The references of a document and what docutils calls problematic, as node and destination.
+
+    The destination is None for what is problematic, and INSIDE for a place of the document.
+    """
     theirs.begin(document.decode())
     tree = publish_doctree(document.decode(), settings_overrides=theirs.SETTINGS)
     found = []
     for node in tree.findall(lambda node: isinstance(node, (nodes.reference, nodes.problematic))):
-        if isinstance(node, nodes.problematic):
-            found.append(f"problematic `{node.astext()}`")
-        elif "refuri" in node:
-            found.append(f"`{node.astext()}` to `{node['refuri']}`")
-        else:
-            found.append(f"`{node.astext()}` inside the document")
+        problematic = isinstance(node, nodes.problematic)
+        found.append((node, None if problematic else node.get("refuri", INSIDE)))
     return found
+
+
+def in_texts(links):
+    """The destinations of docutils' links that stand in a text, without the problematic targets."""
+    return [destination for node, destination in links if isinstance(node.parent, nodes.TextElement)]
+
+
+def shown(links):
+    """docutils' links in words."""
+    return [f"problematic `{node.astext()}`" if destination is None else f"`{node.astext()}` to {destination}"
+            if destination == INSIDE else f"`{node.astext()}` to `{destination}`" for node, destination in links]
