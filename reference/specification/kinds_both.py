@@ -53,6 +53,8 @@ KINDS_BOTH = [
                                                                      x.sides.before(o.start) in set(SKIPPED))),
     Kind("text left out", "`<u>`_", _sorts(PLAIN, EMBEDDED, lambda o, t, x: re.match(r"`\s*<", raw(x, t)))),
     Kind("escaped blank before the bracket", "`a\\ <u>`_", _sorts(PLAIN, EMBEDDED, lambda o, t, x: "\\ <" in raw(x, t))),
+    Kind("escaped `_` in an anonymous address", "`x <u\\_>`__", _sorts(PLAIN, EMBEDDED,
+                                                                      lambda o, t, x: re.search(r"<.*\\_.*>`__?$", raw(x, t)))),
     Kind("bracket in the text of an embedded link", "`a< <u>`_", _sorts(PLAIN, EMBEDDED,
                                                                         lambda o, t, x: raw(x, t).count("<") > 1)),
     Kind("embedded alias with two underscores", "`x <a_>`__", _sorts(["anonymous"], ["embedded alias"])),

@@ -52,10 +52,11 @@ def _before(holds):
 
 
 def _beside_adornment(x):
-    """Whether a line of adornment stands in the same run of lines without an empty one."""
+    """Whether a line of adornment stands in the same run of lines without an empty one, or a table's border before it."""
     before, behind = x.document[:x.ours.start].decode(), x.document[x.ours.start:].decode()
     run = re.split(r"\n[ \t]*\n", before)[-1] + re.split(r"\n[ \t]*\n", behind)[0]
-    return any(re.fullmatch(r"[^\w\s][^\w]*", line.strip()) for line in run.split("\n"))
+    return (any(re.fullmatch(r"[^\w\s][^\w]*", line.strip()) for line in run.split("\n"))
+            or re.search(r"(?m)^ *=+( +=+)+ *$", before))
 
 
 def _first_line_of_block(x):

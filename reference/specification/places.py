@@ -4,6 +4,8 @@ docutils splits a document into lines, expands tabs and drops trailing blanks;
 a text block is then some of these lines without their indents.
 """
 
+import re
+
 from docutils.statemachine import string2lines
 
 
@@ -48,9 +50,12 @@ class Places:
 
     @staticmethod
     def _column(whole, part, read):
-        """Where a text block's line stands in its whole line: a field's name, the line's end, or further on."""
+        """Where a text block's line stands in its whole line: a field's name, a table's cell, the line's end, or further on."""
         if read == 0 and whole.lstrip().startswith(f":{part}:"):
             return whole.index(":") + 1
+        cell = re.search(rf"(?:^|  |\|){re.escape(part)}(?=  | *\||$)", whole[read:])
+        if cell:
+            return read + cell.end() - len(part)
         if whole.endswith(part):
             return len(whole) - len(part)
         return max(whole.find(part, read), 0)
