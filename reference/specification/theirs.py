@@ -47,7 +47,8 @@ def _with_inlines_noted(method):
     @functools.wraps(method)
     def run(self, text, lineno, memo, parent):
         found, messages = method(self, text, lineno, memo, parent)
-        at = _reading.places.block(text, lineno - 1)
+        in_cell = isinstance(parent, nodes.entry)  # whose line docutils counts one too high
+        at = _reading.places.block(text, lineno - 1 - in_cell)
         _reading.texts.append((at[0], at[-1]))
         column = 0
         for node in found:
