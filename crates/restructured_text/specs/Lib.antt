@@ -28,7 +28,10 @@
 --   parts        where some bytes of a text are replaced: PartLaws part-length, part-front, put-here, put-before, put-after, put-length
 --   one of two   a block is no alias and destination at once: TargetLaws alias-or-destination, destination-or-alias
 --   none         where no backticked run begins there is no inline form: InlineLaws text2dest-refused, text-label2dest-refused,
---                text2label-refused; DelimitedLaws backticked-other: another byte than a backtick begins no run
+--                text2label-refused; DelimitedLaws backticked-other: another byte than a backtick begins no run; TargetLaws
+--                no-target: where neither `.. _` nor `__ ` starts there is no target
+--   calm         where no _ and no backtick stands before LF or the end (Calm) nothing is found: CalmLaws calm-text2dest,
+--                calm-text-label2dest, calm-text2label, calm-label2dest, calm-label2label
 --   appending    on s ++ 10 ∷ t, for `Tail t`: Text2targetLaws text2target-lf; LabelLaws simple-lf, reference-lf; InlineLaws
 --                text2dest-lf, text-label2dest-lf, text2label-lf; for `Tail t` and `Body s`: BlockLaws block-lf; TargetLaws
 --                label2target-lf, label2dest-lf, label2label-lf
