@@ -3,9 +3,9 @@
 -- that what is read is still the old text. What a transform gives is no longer than its text.
 -- Assumes nothing.
 use Prim.Native.Nat.{ℕ, suc, _+_, _-_, _<_, _≤_}
-use mathlib.Core.Path.{_≡_, refl, sym, ap, _∙_}
+use mathlib.Core.Path.{_≡_, refl, sym, ap, subst⁻¹, _∙_}
 use mathlib.Core.List.{List, [], _∷_, _++_, append-assoc, append-nil}
-use mathlib.Core.Bool.{Bool, true, false}
+use mathlib.Core.Bool.{Bool, true, false, _||_, not, false≢true}
 use native.Mathlib.Numerals.{add-one}
 use native.Mathlib.Omega.{arith}
 use lib.Dec.{eqb}
@@ -13,12 +13,13 @@ use lib.ListN.{length, take, drop, set, getD, take-append-drop, length-set, leng
 use lib.Seq.{take-suc-set, drop-set-lt, drop-drop, length-take-le, take-append-seam, drop-append-seam, drop-append-le}
 use borrow.Author.Tests.{eq-eqb, ne-eqb}
 use Rattle.rst_bytes.specs.Escaped.{isEscapable}
-use Rattle.rst_bytes.specs.Line.{isMultispace}
+use Rattle.rst_bytes.specs.Line.{isMultispace, bytesFrom}
 use Rattle.rst_bytes.proofs.Lists.{drop-next, drop-two, drop-last, drop-end}
 use Rattle.rst_bytes.proofs.TestLaws.{by-test}
+use Rattle.rst_bytes.proofs.LineLaws.{bytes-within, bytes-count}
 use Rattle.restructured_text.specs.declared.transform.Transformed.{Transformed}
 use Rattle.restructured_text.specs.declared.transform.Transformed.the-variants.{Text, Wrong}
-use Rattle.restructured_text.specs.Transform.{Given, whole, refused, onto, reading, gives, itself, only, unescapedOf, isDestinationEscapable, unblank, keptOf, textOf, destinationOf, transformOf, answerOf, bytesOf, over}
+use Rattle.restructured_text.specs.Transform.{Given, whole, refused, onto, reading, gives, itself, isBare, only, unescapedOf, isDestinationEscapable, unblank, keptOf, textOf, destinationOf, transformOf, answerOf, bytesOf, over}
 
 -- What is put in front.
 
@@ -157,8 +158,28 @@ pub record At (F : List ℕ → Given) (d₀ d : List ℕ) (i n : ℕ) : Type 0 
   pub rest : drop n d ≡ drop n d₀
   pub said : F d₀ ≡ onto (take n d) (F (drop i d₀))
 
-pub start : (F : List ℕ → Given) (d₀ : List ℕ) → At F d₀ d₀ 0 0
-start F d₀ = record { read = omega arith; room = omega arith; len = refl; rest = refl; said = sym (onto-none _) }
+-- The bytes at the front that stand for themselves stay where they are.
+module _ (F : List ℕ → Given) (one : (b : ℕ) (l : List ℕ) → isBare b ≡ true → F (b ∷ l) ≡ onto (b ∷ []) (F l)) where
+  bare-said : (s : List ℕ) → F s ≡ onto (take (bytesFrom isBare 0 s) s) (F (drop (bytesFrom isBare 0 s) s))
+  unfolding bytesFrom
+  bare-said [] = sym (onto-none _)
+  bare-said (b ∷ s) = by-test (λ n. F (b ∷ s) ≡ onto (take n (b ∷ s)) (F (drop n (b ∷ s)))) (isBare b) _ _ (more (bare-said s)) (λ e. sym (onto-none _))
+    where
+      more : F s ≡ onto (take (bytesFrom isBare 0 s) s) (F (drop (bytesFrom isBare 0 s) s)) → isBare b ≡ true → F (b ∷ s) ≡ onto (take (bytesFrom isBare 1 s) (b ∷ s)) (F (drop (bytesFrom isBare 1 s) (b ∷ s)))
+      more ih e =
+          let f : bytesFrom isBare 1 s ≡ suc (bytesFrom isBare 0 s) = omega (arith, bytes-count isBare s 1) in
+          subst⁻¹ (λ (n : ℕ). F (b ∷ s) ≡ onto (take n (b ∷ s)) (F (drop n (b ∷ s)))) f
+          (one b s e ∙ ap (onto (b ∷ [])) ih ∙ onto-onto (b ∷ []) (take (bytesFrom isBare 0 s) s) (F (drop (bytesFrom isBare 0 s) s)))
+
+  start : (d₀ : List ℕ) (n : ℕ) → n ≡ bytesFrom isBare 0 d₀ → At F d₀ d₀ n n
+  start d₀ n e =
+      record {
+        read = omega (arith, e, bytes-within isBare d₀);
+        room = omega arith;
+        len = refl;
+        rest = refl;
+        said = subst⁻¹ (λ (k : ℕ). F d₀ ≡ onto (take k d₀) (F (drop k d₀))) e (bare-said d₀);
+      }
 
 module _ {F : List ℕ → Given} {d₀ d : List ℕ} {i n : ℕ} (st : At F d₀ d i n) where
   -- what is still to be read is as it was
@@ -355,3 +376,25 @@ module _ (t : Bool) (s d x : List ℕ) (r : Transformed) where
       t ≡ false → r ≡ answerOf (textOf s) → x ≡ over (bytesOf (textOf s)) d → (r ≡ answerOf (transformOf t s))
       × (take (length (bytesOf (transformOf t s))) x ≡ bytesOf (transformOf t s))
   transform-text e a b = rw e (a, rw b (over-front (bytesOf (textOf s)) d))
+
+-- A byte that is neither a backslash nor whitespace, by both readings.
+bare-apart : (b : ℕ) → isBare b ≡ true → (eqb b 0x5C ≡ false) × (isMultispace b ≡ false)
+unfolding isBare
+bare-apart b e = go (eqb b 0x5C) (isMultispace b) refl refl e
+  where
+    go : (t u : Bool) → eqb b 0x5C ≡ t → isMultispace b ≡ u → not (t || u) ≡ true → (eqb b 0x5C ≡ false) × (isMultispace b ≡ false)
+    go true u f g h = absurd (false≢true h)
+    go false true f g h = absurd (false≢true h)
+    go false false f g h = (f, g)
+
+pub unescaped-start : (keep : Bool) (d₀ : List ℕ) (n : ℕ) → n ≡ bytesFrom isBare 0 d₀ → At (unescapedOf keep) d₀ d₀ n n
+unescaped-start keep = start (unescapedOf keep) (λ b l e. other isEscapable (λ c. only (gives keep c) c) itself b l (bare-apart b e .0))
+
+pub kept-start : (d₀ : List ℕ) (n : ℕ) → n ≡ bytesFrom isBare 0 d₀ → At keptOf d₀ d₀ n n
+unfolding unblank
+kept-start = start keptOf one
+  where
+    one : (b : ℕ) (l : List ℕ) → isBare b ≡ true → keptOf (b ∷ l) ≡ onto (b ∷ []) (keptOf l)
+    one b l e =
+        other isDestinationEscapable (λ c. 0x5C ∷ c ∷ []) unblank b l (bare-apart b e .0)
+        ∙ ap (λ (x : List ℕ). onto x (keptOf l)) (picks-second _ _ _ (bare-apart b e .1))

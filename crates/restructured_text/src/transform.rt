@@ -2,7 +2,9 @@
 use rst_bytes::escaped::is_escapable;
 use rst_bytes::line::is_multispace;
 ghost use mathlib.Core.Path.{_≡_};
+ghost use Rattle.rst_bytes.specs.Line.{bytesFrom};
 ghost use Rattle.restructured_text.specs.Transform.{
+  isBare,
   isDestinationEscapable,
   gives,
   unescapedOf,
@@ -34,13 +36,40 @@ fn gives_itself(keep: bool, b: u8) -> bool
     if b == b' ' { keep } else { true }
 }
 
+// Neither a backslash nor whitespace: what no transform changes.
+fn is_bare(b: u8) -> bool
+    ensures { λ r. ⌜ r ≡ isBare b ⌝ }
+{
+    if 0x21 <= b {
+        return b != b'\\';
+    }
+    !is_multispace(b)
+}
+
+// How many such bytes stand at the front.
+fn bare(d: &[u8]) -> usize
+    ensures { λ r. ⌜ r ≡ bytesFrom isBare 0 (now (d .entry)) ⌝ }
+{
+    let mut i = 0;
+    while i < d.len() {
+        let b = d[i];
+        if is_bare(b) {
+            i = i + 1;
+        } else {
+            return i;
+        }
+    }
+    i
+}
+
 // An escaped character stands for itself; an escaped space for a space if `keep`, else for nothing.
 fn unescape(d: &mut [u8], keep: bool) -> Transformed
     ensures answer { λ r. ⌜ r ≡ answerOf (unescapedOf keep (now (d .entry))) ⌝ }
     ensures bytes { λ r. ⌜ now (d .exit) ≡ over (bytesOf (unescapedOf keep (now (d .entry)))) (now (d .entry)) ⌝ }
 {
-    let mut i = 0;
-    let mut n = 0;
+    let front = bare(&d[..]);
+    let mut i = front;
+    let mut n = front;
     while i < d.len() {
         let b = d[i];
         if b == b'\\' {
@@ -74,8 +103,9 @@ fn remove_whitespace(d: &mut [u8]) -> Transformed
     ensures answer { λ r. ⌜ r ≡ answerOf (keptOf (now (d .entry))) ⌝ }
     ensures bytes { λ r. ⌜ now (d .exit) ≡ over (bytesOf (keptOf (now (d .entry)))) (now (d .entry)) ⌝ }
 {
-    let mut i = 0;
-    let mut n = 0;
+    let front = bare(&d[..]);
+    let mut i = front;
+    let mut n = front;
     while i < d.len() {
         let b = d[i];
         if b == b'\\' {

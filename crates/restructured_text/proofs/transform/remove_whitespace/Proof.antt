@@ -9,18 +9,21 @@ use lib.Seq.{lt-length-set}
 use lib.ListN.{length}
 use borrow.Author.Needs.{needs}
 use Rattle.restructured_text.specs.Transform.{keptOf}
-use Rattle.restructured_text.proofs.TransformLaws.{At, start, skip, write, write-two, ends-bad, ends-well, at-end, at-alone, at-wrong, at-two, at-blank, at-unblank}
+use Rattle.restructured_text.proofs.TransformLaws.{At, kept-start, skip, write, write-two, ends-bad, ends-well, at-end, at-alone, at-wrong, at-two, at-blank, at-unblank}
 use Rattle.restructured_text.proofs.transform.remove_whitespace.Statement.{statement}
 use Rattle.restructured_text.proofs.transform.remove_whitespace.Tie as tie
 
 abbrev Inv-loop : tie.InvT-loop
-Inv-loop d₀ i₀ n₀ d i n = At keptOf d₀ d i n
+Inv-loop d₀ front i₀ n₀ d i n = At keptOf d₀ d i n
 
 abbrev μ-loop : tie.MeasureT-loop
-μ-loop d₀ i₀ n₀ d i n = length d₀ - i
+μ-loop d₀ front i₀ n₀ d i n = length d₀ - i
+
+bare-requires : tie.Need-bare-requires Inv-loop μ-loop
+bare-requires c κs = search needs
 
 loop-holds : tie.Need-loop-holds Inv-loop μ-loop
-loop-holds c = start _ _
+loop-holds c = kept-start _ _ (c .bare .ensures)
 
 slice-read-b : tie.Need-slice-read-b Inv-loop μ-loop
 slice-read-b c = search needs
@@ -118,6 +121,7 @@ remove-whitespace-spec =
     (tie.spec
     Inv-loop
     μ-loop
+    bare-requires
     loop-holds
     slice-read-b
     add-j

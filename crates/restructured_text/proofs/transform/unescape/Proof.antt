@@ -8,18 +8,21 @@ use native.Mathlib.Omega.{arith}
 use lib.ListN.{length}
 use borrow.Author.Needs.{needs}
 use Rattle.restructured_text.specs.Transform.{unescapedOf}
-use Rattle.restructured_text.proofs.TransformLaws.{At, start, skip, write, ends-bad, ends-well, at-end, at-alone, at-other, at-wrong, at-byte, at-nothing}
+use Rattle.restructured_text.proofs.TransformLaws.{At, unescaped-start, skip, write, ends-bad, ends-well, at-end, at-alone, at-other, at-wrong, at-byte, at-nothing}
 use Rattle.restructured_text.proofs.transform.unescape.Statement.{statement}
 use Rattle.restructured_text.proofs.transform.unescape.Tie as tie
 
 abbrev Inv-loop : tie.InvT-loop
-Inv-loop d₀ keep i₀ n₀ d i n = At (unescapedOf keep) d₀ d i n
+Inv-loop d₀ keep front i₀ n₀ d i n = At (unescapedOf keep) d₀ d i n
 
 abbrev μ-loop : tie.MeasureT-loop
-μ-loop d₀ keep i₀ n₀ d i n = length d₀ - i
+μ-loop d₀ keep front i₀ n₀ d i n = length d₀ - i
+
+bare-requires : tie.Need-bare-requires Inv-loop μ-loop
+bare-requires c κs = search needs
 
 loop-holds : tie.Need-loop-holds Inv-loop μ-loop
-loop-holds c = start _ _
+loop-holds c = unescaped-start _ _ _ (c .bare .ensures)
 
 slice-read-b : tie.Need-slice-read-b Inv-loop μ-loop
 slice-read-b c = search needs
@@ -111,6 +114,7 @@ unescape-spec =
     (tie.spec
     Inv-loop
     μ-loop
+    bare-requires
     loop-holds
     slice-read-b
     add-j
