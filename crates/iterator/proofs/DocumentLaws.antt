@@ -2,7 +2,7 @@
 -- each call may follow the one before; and what the call returns, by its tests.
 -- Assumes nothing.
 use Prim.Native.Nat.{ℕ, _-_, _<_, _≤_}
-use mathlib.Core.Path.{_≡_, refl, sym, ap, ap₂, subst, subst⁻¹, _∙_}
+use mathlib.Core.Path.{_≡_, sym, ap, ap₂, subst, subst⁻¹, _∙_}
 use mathlib.Core.List.{List, _++_, map}
 use native.Mathlib.Omega.{arith}
 use lib.ListN.{length, drop, replicate, length-map}
@@ -51,7 +51,6 @@ use Rattle.iterator.specs.Inner.{
   AliasesResolved,
   ReferencesHeld,
   ReferencesResolved,
-  sizeOf,
   InOrder,
   Writing,
 }
@@ -145,20 +144,12 @@ module _ (render : ℕ) (s t w : List ℕ) where
           (links-within-wider _ _ _ _ _ (h .1) (omega (arith, filled)) (h .0 .tables .links-within))
 
       pub references-held : ReferencesHeld (c .links) names s t′ w
-      unfolding linkRows LinksWithin sizeOf
       references-held =
-          let e : c .links - 0 ≡ c .links = omega arith in
           record {
-            roomy = (omega (arith, g .roomy .0), g .roomy .1);
             short = g .short;
-            before = omega arith;
-            inside = omega arith;
             few = g .held .0 .tables .links-few;
-            destinations-few = a .0;
-            size = refl;
-            resolved-within = tt;
-            ahead-within = subst⁻¹ (λ (n : ℕ). LinksWithin (length s) room (linkRows n 0 t′)) e links-within;
-            destinations-within = a .1 .0;
+            links-within = links-within;
+            names = ((omega (arith, g .roomy .0), g .roomy .1), (a .0, a .1 .0));
           }
 
       -- And the references.

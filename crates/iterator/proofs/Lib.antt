@@ -10,6 +10,7 @@ pub mod ReadingLaws
 pub mod ResolveLaws
 pub mod WalkLaws
 pub mod RecordLaws
+pub mod IndexLaws
 pub mod ReferenceLaws
 pub mod ReadBackLaws
 pub mod CollectingLaws

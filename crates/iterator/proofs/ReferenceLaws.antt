@@ -1,7 +1,7 @@
 -- The laws of references: what one link more says, that it is kept or dropped, and what the rows are then.
 -- Assumes nothing.
 use Prim.Native.Nat.{ℕ, _+_, _-_, _*_, _<_, _≤_}
-use mathlib.Core.Path.{_≡_, refl, sym, ap, ap₂, subst, _∙_}
+use mathlib.Core.Path.{_≡_, refl, sym, ap, ap₂, subst, subst⁻¹, _∙_}
 use mathlib.Core.List.{List, [], _∷_, _++_, map, append-nil}
 use mathlib.Core.Bool.{true, false}
 use native.Mathlib.Omega.{arith}
@@ -36,11 +36,12 @@ use Rattle.iterator.specs.Rows.{
   LinksWithin,
   putLink,
 }
+use Rattle.iterator.specs.Index.{Indexed, TablesKept}
 use Rattle.iterator.specs.Inner.{
   foundOf,
   LookupWithin,
   LinkSmall,
-  Lookable,
+  InIndex,
   Keeping,
   kept,
   sizeOf,
@@ -49,7 +50,18 @@ use Rattle.iterator.specs.Inner.{
   ReferencesHeld,
   ReferencesResolved,
 }
-use Rattle.iterator.proofs.RowsLaws.{links-put, links-link-before, pairs-link-before, links-within-snoc, length-put-link, link-small, map-snoc}
+use Rattle.iterator.proofs.RowsLaws.{
+  links-agree,
+  pairs-agree,
+  links-put,
+  links-link-before,
+  pairs-link-before,
+  links-within-snoc,
+  length-put-link,
+  link-small,
+  map-snoc,
+}
+use Rattle.iterator.proofs.IndexLaws.{index-put, names-kept}
 use Rattle.iterator.proofs.RecordLaws.{picks-first, picks-second, plain-other, within-plain, text-le, goal-length, rows-next, size-few}
 
 -- the row of a reference that is resolved: its goal is a destination
@@ -143,9 +155,8 @@ module _ (n i destinations : ℕ) (s t w : List ℕ) (r : Resolved) (v : Resolvi
     keep-direct = can-keep more x row-within
 
     -- its label can be looked up
-    pub can-look : Lookable (x .goal) 0 destinations t w
-    unfolding lookup pairRows
-    can-look = (v .roomy, (v .destinations-few, (row-within .1 .1, (v .destinations-within, (omega arith, refl)))))
+    pub can-look : InIndex (x .goal) destinations t w
+    can-look = ((v .roomy, (v .destinations-few, v .destinations-within)), (row-within .1 .1, v .indexed))
 
     items : itemsOf (n - i) (7 * i) s t w ≡ itemOf s w x ∷ itemsOf (n - (i + 1)) (7 * (i + 1)) s t w
     items = ap (map (itemOf s w)) rows
@@ -164,6 +175,7 @@ module _ (n i destinations : ℕ) (s t w : List ℕ) (r : Resolved) (v : Resolvi
           resolved-within = v .resolved-within;
           ahead-within = rows-within .1;
           destinations-within = v .destinations-within;
+          indexed = v .indexed;
         }
 
     pub link-dropped :
@@ -218,6 +230,7 @@ module _ (n i destinations : ℕ) (s t w : List ℕ) (r : Resolved) (v : Resolvi
             resolved-within = rw kept-rows (links-within-snoc (length s) room (linkRows (r .links) 0 t) y (v .resolved-within) within);
             ahead-within = rw kept-ahead (rows-within .1);
             destinations-within = rw kept-destinations (v .destinations-within);
+            indexed = index-put destinations (7 * r .links) t w y (omega (arith, v .before, v .few)) (v .indexed);
           }
 
       kept-both :
@@ -264,13 +277,50 @@ pub record References (n destinations : ℕ) (s t₀ t w : List ℕ) (i : ℕ) (
   pub held : Resolving n i destinations s t w r
   pub links : resolvingOf n i destinations s t w r ≡ resolveReferences (pairsOf destinations destinationsAt t₀ w) (itemsOf n 0 s t₀ w)
 
+-- they are held while their tables are kept, and resolved they are the same
+pub references-kept :
+    (n destinations : ℕ) (s t t′ w : List ℕ) → ReferencesHeld n destinations s t w → length t′ ≡ length t → TablesKept t t′
+    → ReferencesHeld n destinations s t′ w
+    × (resolveReferences (pairsOf destinations destinationsAt t′ w) (itemsOf n 0 s t′ w)
+    ≡ resolveReferences (pairsOf destinations destinationsAt t w) (itemsOf n 0 s t w))
+references-kept n destinations s t t′ w h l kept =
+    let links : linkRows n 0 t′ ≡ linkRows n 0 t = links-agree n 0 t t′ (λ k g u. kept k (omega (arith, h .few))) in
+    let rows : pairRows destinations destinationsAt t′ ≡ pairRows destinations destinationsAt t =
+    pairs-agree destinations destinationsAt t t′ (λ k g u. kept k (omega (arith, h .names .1 .0))) in (
+      record {
+        short = h .short;
+        few = h .few;
+        links-within = rw links (h .links-within);
+        names = names-kept destinations t t′ w (h .names) l kept;
+      },
+      λ j. resolveReferences (map (pairOf w) (rows j)) (map (itemOf s w) (links j)),
+    )
+
+-- they start once the names are in the index
 pub references-start :
-    (n destinations : ℕ) (s t w : List ℕ) → ReferencesHeld n destinations s t w
+    (n destinations : ℕ) (s t w : List ℕ) → ReferencesHeld n destinations s t w → Indexed destinations t w
     → References n destinations s t t w 0 (record { links = 0; size = 0 })
-unfolding linkRows
-references-start n destinations s t w h =
+unfolding linkRows LinksWithin sizeOf
+references-start n destinations s t w h x =
     let e : n - 0 ≡ n = omega arith in
-    record { long = refl; held = h; links = ap (λ (k : ℕ). resolveReferences (pairsOf destinations destinationsAt t w) (itemsOf k 0 s t w)) e }
+    record {
+      long = refl;
+      held =
+          record {
+            roomy = h .names .0;
+            short = h .short;
+            before = omega arith;
+            inside = omega arith;
+            few = h .few;
+            destinations-few = h .names .1 .0;
+            size = refl;
+            resolved-within = tt;
+            ahead-within = subst⁻¹ (λ (k : ℕ). LinksWithin (length s) room (linkRows k 0 t)) e (h .links-within);
+            destinations-within = h .names .1 .1;
+            indexed = x;
+          };
+      links = ap (λ (k : ℕ). resolveReferences (pairsOf destinations destinationsAt t w) (itemsOf k 0 s t w)) e;
+    }
 
 pub references-done :
     (n destinations : ℕ) (s t₀ t w : List ℕ) (i : ℕ) (r : Resolved) → References n destinations s t₀ t w i r → n ≤ i

@@ -37,7 +37,8 @@ use Rattle.iterator.specs.Collect.{
 }
 use Rattle.iterator.specs.Records.{wordOf, bytes8, recordsOf}
 use Rattle.iterator.specs.Resolve.{Destination, has, none, lookup, search, hit, missed, resolveFrom, resolveReferences, Hyperlink}
-use Rattle.iterator.specs.Rows.{pairRows, linkRows, pairsOf, itemsOf, hyperlinksIn, destinationsAt, aliasesAt, direct, textOf, room, SpanWithin, PairsWithin, LinkWithin, LinksWithin, putLink, putPair}
+use Rattle.iterator.specs.Index.{Indexed}
+use Rattle.iterator.specs.Rows.{pairAt, pairRows, linkRows, pairsOf, itemsOf, hyperlinksIn, destinationsAt, aliasesAt, direct, textOf, room, SpanWithin, PairsWithin, LinkWithin, LinksWithin, putLink, putPair}
 
 -- rows whose numbers fit into the work numbers
 abbrev pub SpanSmall : Span → Type 0
@@ -275,6 +276,18 @@ Lookable name m n t w =
     × (PairsWithin room (pairRows n destinationsAt t)
     × ((m ≤ n) × (lookup (part name w) (pairsOf m destinationsAt t w) ≡ none)))))
 
+-- the names with a destination, n of them, stand in the areas
+abbrev pub NamesHeld : ℕ → List ℕ → List ℕ → Type 0
+NamesHeld n t w = Roomy t w × ((n ≤ 256) × PairsWithin room (pairRows n destinationsAt t))
+
+-- row i can be put into the index
+abbrev pub Indexable : ℕ → List ℕ → List ℕ → Type 0
+Indexable i t w = Roomy t w × ((i < 256) × SpanWithin room (pairAt t (destinationsAt + 4 * i) .name))
+
+-- the n names are in the index, and a name is to be looked up there
+abbrev pub InIndex : Span → ℕ → List ℕ → List ℕ → Type 0
+InIndex name n t w = NamesHeld n t w × (SpanWithin room name × Indexed n t w)
+
 abbrev pub LookupWithin : Lookup → Type 0
 LookupWithin (Has a) = SpanWithin room a
 LookupWithin NotThere = Unit {0}
@@ -396,6 +409,7 @@ pub record Resolving (n i destinations : ℕ) (s t w : List ℕ) (r : Resolved) 
   pub resolved-within : LinksWithin (length s) room (linkRows (r .links) 0 t)
   pub ahead-within : LinksWithin (length s) room (linkRows (n - i) (7 * i) t)
   pub destinations-within : PairsWithin room (pairRows destinations destinationsAt t)
+  pub indexed : Indexed destinations t w
 
 -- all links, where those from the i-th row on are still to be resolved
 abbrev pub resolvingOf : ℕ → ℕ → ℕ → List ℕ → List ℕ → List ℕ → Resolved → List Hyperlink
@@ -403,8 +417,12 @@ resolvingOf n i destinations s t w r =
     hyperlinksIn (r .links) s t w
     ++ resolveReferences (pairsOf destinations destinationsAt t w) (itemsOf (n - i) (7 * i) s t w)
 
-abbrev pub ReferencesHeld : ℕ → ℕ → List ℕ → List ℕ → List ℕ → Type 0
-ReferencesHeld n destinations s t w = Resolving n 0 destinations s t w (record { links = 0; size = 0 })
+-- n links are to be resolved
+pub record ReferencesHeld (n destinations : ℕ) (s t w : List ℕ) : Type 0 where
+  pub short : length s ≤ 16384
+  pub few : n ≤ 256
+  pub links-within : LinksWithin (length s) room (linkRows n 0 t)
+  pub names : NamesHeld destinations t w
 
 abbrev pub ReferencesResolved : List ℕ → List ℕ → List ℕ → Resolved → Type 0
 ReferencesResolved s t w r =

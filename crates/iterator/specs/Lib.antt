@@ -4,7 +4,7 @@
 --   Document    documentOf    document    number, links and bytes, the output, and both work areas
 -- It is made of, in 01's order: Collect (collectAll: what all links of the document give, numbered, or 5 or 6), Resolve (hyperlinksOf:
 -- aliases, then references), Records (recordsOf). What the links of a document are, one after the other, is `parse`'s Links linksOf.
--- Rows and Inner are what the contracts of private functions speak of: how lists stand in the work areas. Cases gathers worked cases,
+-- Rows, Index and Inner are what the contracts of private functions speak of: how lists stand in the work areas. Cases gathers worked cases,
 -- which proofs/CasesHold.antt computes.
 --
 -- Laws, proved in the file of proofs/ that is named, for the layers above; ReadBack, Laws and Reach define what they speak of:
@@ -36,5 +36,6 @@ pub mod ReadBack
 pub mod Laws
 pub mod Reach
 pub mod Rows
+pub mod Index
 pub mod Inner
 pub mod Cases

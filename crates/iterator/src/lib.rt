@@ -5,6 +5,7 @@
 mod areas;
 mod collect;
 mod counters;
+mod index;
 mod names;
 mod records;
 mod resolve;

@@ -1,4 +1,4 @@
-// Names: which are anonymous, the numbered ones, and whether two are the same.
+// Names: which are anonymous, the numbered ones, whether two are the same, and which bucket of the index one belongs to.
 use restructured_text::Span;
 ghost use mathlib.Core.Path.{_≡_};
 ghost use mathlib.Core.List.{_++_};
@@ -7,6 +7,7 @@ ghost use lib.ListN.{length, drop};
 ghost use Rattle.restructured_text.specs.Strings.{part};
 ghost use Rattle.iterator.specs.Collect.{isAnonymous, numbered};
 ghost use Rattle.iterator.specs.Resolve.{same};
+ghost use Rattle.iterator.specs.Index.{bucketOf};
 
 // Whether a part of the work bytes is `_`.
 pub fn is_anonymous(bytes: &[u8], a: Span) -> bool
@@ -68,4 +69,20 @@ pub fn same_name(bytes: &[u8], a: Span, b: Span) -> bool
         return true;
     }
     false
+}
+
+// The bucket that a part of the work bytes belongs to, by all of its bytes: parts that are the same belong to the same.
+pub fn bucket(bytes: &[u8], a: Span) -> usize
+    requires { ⌜ a .start + a .len ≤ length (now bytes) ⌝ }
+    ensures bucket { λ r. ⌜ r ≡ bucketOf (part a (now (bytes .entry))) ⌝ }
+    ensures small { λ r. ⌜ r < 256 ⌝ }
+{
+    let end = a.start + a.len;
+    let mut i = a.start;
+    let mut h: usize = 0;
+    while i < end {
+        h = (h * 9 + bytes[i] as usize) % 256;
+        i += 1;
+    }
+    h
 }

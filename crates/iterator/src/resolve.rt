@@ -1,4 +1,8 @@
 // Resolving: the destination of a name, of each alias, and of each reference.
+use crate::index::EARLIER;
+use crate::index::LASTS;
+use crate::index::index_names;
+use crate::names::bucket;
 use crate::names::same_name;
 use crate::records::record_len;
 use crate::rows::ALIASES;
@@ -18,6 +22,7 @@ ghost use Rattle.iterator.specs.Resolve.{lookup, resolveAliases, resolve
 ghost use Rattle.iterator.specs.Rows.{pairsOf, itemsOf, hyperlinksIn, destinationsAt, aliasesAt, putLink};
 ghost use Rattle.iterator.specs.Inner.{
   Lookable,
+  InIndex,
   foundOf,
   LookupWithin,
   wrap,
@@ -58,6 +63,27 @@ pub fn destination_of(name: Span, from: usize, n: usize, numbers: &[u32], bytes:
         if same_name(bytes, stored, name) {
             return Lookup::Has(to);
         }
+    }
+    Lookup::NotThere
+}
+
+// The destination of a name, found through the index of the n names: only rows of its bucket are looked at, the last of them first.
+fn destination_by_index(name: Span, n: usize, numbers: &[u32], bytes: &[u8]) -> Lookup
+    requires { ⌜ InIndex name n (now numbers) (now bytes) ⌝ }
+    ensures found { λ r. ⌜ foundOf r (now (bytes .entry)) ≡ lookup (part name (now (bytes .entry))) (pairsOf n destinationsAt (now (numbers .entry)) (now (bytes .entry))) ⌝ }
+    ensures within { λ r. ⌜ LookupWithin r ⌝ }
+{
+    let b = bucket(bytes, name);
+    let mut i = numbers[LASTS + b] as usize;
+    while 0 < i {
+        let k = i - 1;
+        let row = pair_at(numbers, DESTINATIONS + 4 * k);
+        let stored = row.name;
+        let to = row.to;
+        if same_name(bytes, stored, name) {
+            return Lookup::Has(to);
+        }
+        i = numbers[EARLIER + k] as usize;
     }
     Lookup::NotThere
 }
@@ -198,7 +224,7 @@ fn resolve_link(
     if x.kind == REFERENCE {
         let text = x.text;
         let label = x.goal;
-        return match destination_of(label, 0, destinations, numbers, bytes) {
+        return match destination_by_index(label, destinations, numbers, bytes) {
             Lookup::Has(goal) => {
                 let row = LinkRow {
                     place: x.place,
@@ -227,6 +253,7 @@ pub fn resolve_text2label_references(
     ensures links { λ r. ⌜ hyperlinksIn (r .links) (now (document .entry)) (now (numbers .exit)) (now (bytes .entry)) ≡ resolveReferences (pairsOf destinations destinationsAt (now (numbers .entry)) (now (bytes .entry))) (itemsOf n 0 (now (document .entry)) (now (numbers .entry)) (now (bytes .entry))) ⌝ }
     ensures held { λ r. ⌜ ReferencesResolved (now (document .entry)) (now (numbers .exit)) (now (bytes .entry)) r ⌝ }
 {
+    index_names(destinations, numbers, bytes);
     let mut r = Resolved { links: 0, size: 0 };
     let mut i = 0;
     while i < n {

@@ -16,15 +16,15 @@ mul-link-at c = omega arith
 link-at-requires : tie.Need-link-at-requires
 link-at-requires c κs = omega arith
 
-destination-of-requires : tie.Need-destination-of-requires
-destination-of-requires c κs = can-look _ _ _ _ _ _ _ (c .before .before .before .before .before .before .before .before .before .before .pre .1) _ (c .before .before .before .before .before .link-at .ensures) (c .before .before .before .before .before .before .before .before .before .before .pre .0)
+destination-by-index-requires : tie.Need-destination-by-index-requires
+destination-by-index-requires c κs = can-look _ _ _ _ _ _ _ (c .before .before .before .before .before .before .before .before .before .before .pre .1) _ (c .before .before .before .before .before .link-at .ensures) (c .before .before .before .before .before .before .before .before .before .before .pre .0)
 
 enum-known-goal : tie.Need-enum-known-goal
 enum-known-goal c = search needs
 
 keep-requires : tie.Need-keep-requires
 keep-requires c κs =
-    keep-found _ _ _ _ _ _ _ (c .before .before .before .before .before .before .before .before .before .before .before .before .before .before .before .pre .1) _ (c .before .before .before .before .before .before .before .before .before .before .link-at .ensures) (c .before .before .before .before .before .before .before .before .before .before .before .before .before .before .before .pre .0) _ _ (c .before .before .goal .given .1) (c .before .before .before .before .before .before .before .before .if1 .taken) (c .before .before .before .before .destination-of .ensures .1)
+    keep-found _ _ _ _ _ _ _ (c .before .before .before .before .before .before .before .before .before .before .before .before .before .before .before .pre .1) _ (c .before .before .before .before .before .before .before .before .before .before .link-at .ensures) (c .before .before .before .before .before .before .before .before .before .before .before .before .before .before .before .pre .0) _ _ (c .before .before .goal .given .1) (c .before .before .before .before .before .before .before .before .if1 .taken) (c .before .before .before .before .destination-by-index .ensures .1)
 
 enum-told : tie.Need-enum-told
 enum-told c = search needs
@@ -34,8 +34,8 @@ same-length c = search needs
 
 returns : tie.Need-returns
 returns c =
-    link-found _ _ _ _ _ _ _ (c .before .before .before .before .before .before .before .before .before .before .before .before .before .before .before .before .before .before .pre .1) _ (c .before .before .before .before .before .before .before .before .before .before .before .before .before .link-at .ensures) (c .before .before .before .before .before .before .before .before .before .before .before .before .before .before .before .before .before .before .pre .0) _ _ (c .before .before .before .before .before .goal .given .1) (c .before .before .before .before .before .before .before .before .before .before .before .if1 .taken) (c .before .before .before .before .before .before .before .destination-of .ensures .1)
-    (c .before .before .before .before .before .before .before .destination-of .ensures .0)
+    link-found _ _ _ _ _ _ _ (c .before .before .before .before .before .before .before .before .before .before .before .before .before .before .before .before .before .before .pre .1) _ (c .before .before .before .before .before .before .before .before .before .before .before .before .before .link-at .ensures) (c .before .before .before .before .before .before .before .before .before .before .before .before .before .before .before .before .before .before .pre .0) _ _ (c .before .before .before .before .before .goal .given .1) (c .before .before .before .before .before .before .before .before .before .before .before .if1 .taken) (c .before .before .before .before .before .before .before .destination-by-index .ensures .1)
+    (c .before .before .before .before .before .before .before .destination-by-index .ensures .0)
     _
     _
     (c .before .before .keep .ensures .0)
@@ -47,7 +47,7 @@ same-length-2 c = search needs
 returns-2 : tie.Need-returns-2
 returns-2 c =
     link-dropped _ _ _ _ _ _ _ (c .before .before .before .before .before .before .before .before .before .before .before .before .before .pre .1) _ (c .before .before .before .before .before .before .before .before .link-at .ensures) (c .before .before .before .before .before .before .before .before .before .before .before .before .before .pre .0) (c .before .before .before .before .before .before .if1 .taken)
-    (sym (c .before .before .destination-of .ensures .0) ∙ ap (λ (l : Lookup). foundOf l (c .before .before .before .before .before .before .before .before .before .before .before .before .before .args .bytes .now)) (c .enum-told .given .1))
+    (sym (c .before .before .destination-by-index .ensures .0) ∙ ap (λ (l : Lookup). foundOf l (c .before .before .before .before .before .before .before .before .before .before .before .before .before .args .bytes .now)) (c .enum-told .given .1))
 
 keep-requires-2 : tie.Need-keep-requires-2
 keep-requires-2 c κs = keep-direct _ _ _ _ _ _ _ (c .before .before .before .before .before .before .before .before .pre .1) _ (c .before .before .before .link-at .ensures) (c .before .before .before .before .before .before .before .before .pre .0)
@@ -65,7 +65,7 @@ resolve-link-spec =
     (tie.spec
     mul-link-at
     link-at-requires
-    destination-of-requires
+    destination-by-index-requires
     enum-known-goal
     keep-requires
     enum-told

@@ -4,7 +4,7 @@
 use Prim.Native.Nat.{_-_}
 use mathlib.Core.Path.{_∙_}
 use native.Mathlib.Omega.{arith}
-use Rattle.iterator.proofs.ReferenceLaws.{References, references-start, references-done}
+use Rattle.iterator.proofs.ReferenceLaws.{References, references-start, references-kept, references-done}
 use Rattle.iterator.proofs.resolve.resolve_text2label_references.Statement.{statement}
 use Rattle.iterator.proofs.resolve.resolve_text2label_references.Tie as tie
 
@@ -14,8 +14,15 @@ Inv-loop n destinations document numbers₀ bytes r₀ i₀ numbers r i = Refere
 abbrev μ-loop : tie.MeasureT-loop
 μ-loop n destinations document numbers₀ bytes r₀ i₀ numbers r i = n - i
 
+index-names-requires : tie.Need-index-names-requires Inv-loop μ-loop
+index-names-requires c κs = c .before .before .before .before .pre .names
+
 loop-holds : tie.Need-loop-holds Inv-loop μ-loop
-loop-holds c = references-start _ _ _ _ _ (c .before .before .before .pre)
+loop-holds c =
+    let r = c .before .before .index-names in
+    let s = c .before .before .before .before .before .before .before in
+    let k = references-kept _ _ _ (s .args .numbers .now) (r .last .1 .0) _ (s .pre) (r .kept .1 .0) (r .ensures .0) in
+    references-start _ _ _ _ _ (k .0) (r .ensures .1)
 
 resolve-link-requires : tie.Need-resolve-link-requires Inv-loop μ-loop
 resolve-link-requires c κs = (c .before .loop-test .taken, c .before .before .loop .inv .held)
@@ -33,10 +40,15 @@ loop-again c =
     record { long = c .before .before .resolve-link .kept .1 .1 .1 .1 .1 .0 ∙ v .long; held = e .1; links = e .0 ∙ v .links }
 
 same-length : tie.Need-same-length Inv-loop μ-loop
-same-length c = c .before .loop .inv .long
+same-length c = c .before .loop .inv .long ∙ c .before .before .before .before .index-names .kept .1 .0
 
 returns : tie.Need-returns Inv-loop μ-loop
-returns c = references-done _ _ _ _ _ _ _ _ (c .before .loop .inv) (c .loop-test .left)
+returns c =
+    let r = c .before .before .before .before .index-names in
+    let s = c .before .before .before .before .before .before .before .before .before in
+    let k = references-kept _ _ _ (s .args .numbers .now) (r .last .1 .0) _ (s .pre) (r .kept .1 .0) (r .ensures .0) in
+    let d = references-done _ _ _ _ _ _ _ _ (c .before .loop .inv) (c .loop-test .left) in
+    (d .0 ∙ k .1, d .1)
 
 pub resolve-text2label-references-spec : {M : Type 1} → statement M
 resolve-text2label-references-spec =
@@ -44,6 +56,7 @@ resolve-text2label-references-spec =
     (tie.spec
     Inv-loop
     μ-loop
+    index-names-requires
     loop-holds
     resolve-link-requires
     add-i
