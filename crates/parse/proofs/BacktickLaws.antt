@@ -4,7 +4,7 @@
 use Prim.Native.Nat.{ℕ, _+_, _-_, _<_, _≤_}
 use native.Mathlib.Nat.{le-refl, le-trans}
 use native.Mathlib.Omega.{arith}
-use mathlib.Core.Path.{_≡_, refl, sym, ap, subst⁻¹, _∙_}
+use mathlib.Core.Path.{_≡_, refl, sym, ap, subst, subst⁻¹, _∙_}
 use mathlib.Core.List.{List, [], _∷_}
 use mathlib.Core.Bool.{Bool, true, false, true≢false}
 use mathlib.Core.Logic.{⊎-elim}
@@ -18,31 +18,38 @@ use Rattle.rst_bytes.specs.declared.Part.{Part}
 use Rattle.rst_bytes.specs.declared.Part.the-variants.{Taken, Refused}
 use Rattle.rst_bytes.proofs.Lists.{drop-next, drop-two, drop-last, drop-end}
 use Rattle.rst_bytes.proofs.TestLaws.{by-test, lt-or-le}
-use Rattle.rst_bytes.proofs.EscapedLaws.{refused-taken, taken-from, at-end, at-plain, at-stop, at-alone, at-pair, at-wrong}
+use Rattle.rst_bytes.proofs.EscapedLaws.{refused-taken, taken-is, taken-from, at-end, at-plain, at-stop, at-alone, at-pair, at-wrong}
 use Rattle.restructured_text.specs.Delimited.{closing, backtickedOf}
-use Rattle.restructured_text.proofs.DelimitedLaws.{taken-is, delimited-is, backticked-other}
+use Rattle.restructured_text.proofs.DelimitedLaws.{delimited-is, backticked-other}
 use Rattle.restructured_text.proofs.InlineLaws.{text2dest-refused, text-label2dest-refused, text2label-refused}
+use Rattle.parse.specs.declared.rounds.Known.{Known}
 use Rattle.parse.specs.Link.{Scanned, nothing, behind, orElse}
 use Rattle.parse.specs.Forms.{anonymous, named, reference, tried, rst}
 use Rattle.parse.specs.Scan.{isOpening, openingOf, referenceAt, followed, inlineAt}
-use Rattle.parse.specs.Inner.{Shut}
+use Rattle.parse.specs.Inner.{Ticks, NoPart, NoLink, Shut, Holds}
 use Rattle.parse.proofs.FormsLaws.{tried-next}
 
--- nothing is claimed of no places
-pub shut-none : (s : List ℕ) (m n : ℕ) → n ≤ m → Shut m n s
-shut-none s m n h i k l = absurd (omega arith)
+-- Any claim of what begins with a backtick.
+module _ (Claim : List ℕ → Type 0) where
+  -- nothing is claimed of no places
+  pub ticks-none : (s : List ℕ) (m n : ℕ) → n ≤ m → Ticks Claim m n s
+  ticks-none s m n h i k l = absurd (omega arith)
 
--- what is known from m on is known from a later place on
-pub shut-later : (s : List ℕ) (m k n : ℕ) → m ≤ k → Shut m n s → Shut k n s
-shut-later s m k n h f i l = f i (le-trans h l)
+  -- what is known from m on is known from a later place on
+  pub ticks-later : (s : List ℕ) (m k n : ℕ) → m ≤ k → Ticks Claim m n s → Ticks Claim k n s
+  ticks-later s m k n h f i l = f i (le-trans h l)
 
--- what is known of s from place k on, t, is known of s
-pub shut-behind : (s t : List ℕ) (k n : ℕ) → t ≡ drop k s → Shut 0 n t → Shut k (k + n) s
-shut-behind s t k n e f i h l b anonym =
-    let z : k + (i - k) ≡ i = omega arith in
-    let g : getD t (i - k) 0 ≡ getD s i 0 = ap (λ (x : List ℕ). getD x (i - k) 0) e ∙ getD-drop k s (i - k) 0 ∙ ap (λ (j : ℕ). getD s j 0) z in
-    let d : drop (i - k) t ≡ drop i s = ap (drop (i - k)) e ∙ drop-drop (i - k) k s ∙ ap (λ (j : ℕ). drop j s) z in
-    ap (backtickedOf anonym) (sym d) ∙ f (i - k) (omega arith) (omega arith) (g ∙ b) anonym
+  -- what is known of s from place k on, t, is known of s
+  pub ticks-behind : (s t : List ℕ) (k n : ℕ) → t ≡ drop k s → Ticks Claim 0 n t → Ticks Claim k (k + n) s
+  ticks-behind s t k n e f i h l b =
+      let z : k + (i - k) ≡ i = omega arith in
+      let g : getD t (i - k) 0 ≡ getD s i 0 = ap (λ (x : List ℕ). getD x (i - k) 0) e ∙ getD-drop k s (i - k) 0 ∙ ap (λ (j : ℕ). getD s j 0) z in
+      let d : drop (i - k) t ≡ drop i s = ap (drop (i - k)) e ∙ drop-drop (i - k) k s ∙ ap (λ (j : ℕ). drop j s) z in
+      subst Claim d (f (i - k) (omega arith) (omega arith) (g ∙ b))
+
+-- all that is known stays known further on
+pub holds-later : (s : List ℕ) (m k : ℕ) (known : Known) → m ≤ k → Holds m known s → Holds k known s
+holds-later s m k known h w = (ticks-later NoPart s m k (known .shut) h (w .0), ticks-later NoLink s m k (known .barren) h (w .1))
 
 -- where a part that is read from place i on ends, it is not closed
 abbrev pub Unclosed : List ℕ → ℕ → Type 0
@@ -172,21 +179,20 @@ unfolding openingOf isOpening
 quoted-refused true r e = ap (behind 0) (tried-next reference [] (0x60 ∷ r) (text2label-refused r e))
 quoted-refused false r e = refl
 
-module _ (spaced : Bool) (s : List ℕ) (i : ℕ) (h : i < length s) where
-  -- the same of what (d) and (e) find
-  inline-refused : ((anonym : Bool) → backtickedOf anonym (drop i s) ≡ Refused) → inlineAt rst spaced (drop i s) ≡ followed rst (drop i s) (referenceAt rst spaced (drop i s))
-  unfolding inlineAt
-  inline-refused f =
-      ap (λ (x : Scanned). followed rst (drop i s) (orElse x (referenceAt rst spaced (drop i s)))) (embedded-refused (drop i s) f)
+-- nor at another byte than a backtick
+pub other-unlinked : (s : List ℕ) (i : ℕ) → i < length s → (getD s i 0 ≡ 0x60 → ⊥) → tried (rst .embedded) (drop i s) ≡ nothing
+other-unlinked s i h e =
+    embedded-refused (drop i s) (λ anonym. ap (backtickedOf anonym) (drop-next s i h) ∙ backticked-other anonym _ _ e)
 
-  -- at another byte than a backtick
-  pub other-inline : (getD s i 0 ≡ 0x60 → ⊥) → inlineAt rst spaced (drop i s) ≡ followed rst (drop i s) (referenceAt rst spaced (drop i s))
-  other-inline e =
-      inline-refused (λ anonym. ap (backtickedOf anonym) (drop-next s i h) ∙ backticked-other anonym _ _ e)
+module _ (spaced : Bool) (s : List ℕ) (i : ℕ) (h : i < length s) where
+  -- where (d) finds nothing, what (e) finds is the answer
+  pub unlinked-inline : tried (rst .embedded) (drop i s) ≡ nothing → inlineAt rst spaced (drop i s) ≡ followed rst (drop i s) (referenceAt rst spaced (drop i s))
+  unfolding inlineAt
+  unlinked-inline e = ap (λ (x : Scanned). followed rst (drop i s) (orElse x (referenceAt rst spaced (drop i s)))) e
 
   -- at a backtick of which it is known
   pub shut-inline : (n : ℕ) → Shut i n s → i < n → getD s i 0 ≡ 0x60 → inlineAt rst spaced (drop i s) ≡ nothing
-  shut-inline n f l e = inline-refused shut ∙ ap (followed rst (drop i s)) (ap (referenceAt rst spaced) is ∙ quoted-refused spaced _ (ap (backtickedOf false) (sym is) ∙ shut false))
+  shut-inline n f l e = unlinked-inline (embedded-refused (drop i s) shut) ∙ ap (followed rst (drop i s)) (ap (referenceAt rst spaced) is ∙ quoted-refused spaced _ (ap (backtickedOf false) (sym is) ∙ shut false))
     where
       shut : (anonym : Bool) → backtickedOf anonym (drop i s) ≡ Refused
       shut = f i (le-refl i) l e

@@ -27,7 +27,7 @@ answered s d d′ z x y h e f = lent-enough s d z h ∙ sym e ∙ ap (λ (w : St
 
 -- The first form finds a link, or not.
 module _ (f : Form) (fs : List Form) (s : List ℕ) where
-  tried-link : (x y : List ℕ) (n : ℕ) → f .parser s ≡ link x y n → tried (f ∷ fs) s ≡ found (f .kind) x y 0 n
+  pub tried-link : (x y : List ℕ) (n : ℕ) → f .parser s ≡ link x y n → tried (f ∷ fs) s ≡ found (f .kind) x y 0 n
   tried-link x y n e = rw e
 
   pub tried-next : f .parser s ≡ none → tried (f ∷ fs) s ≡ tried fs s

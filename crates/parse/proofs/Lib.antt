@@ -4,6 +4,7 @@ pub mod LinksLaws
 pub mod AppendingLaws
 pub mod FormsLaws
 pub mod BacktickLaws
+pub mod BarrenLaws
 pub mod RoundLaws
 pub mod CalmLaws
 pub mod SingleLaws

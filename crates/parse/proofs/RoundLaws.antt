@@ -46,6 +46,7 @@ use Rattle.parse.specs.Scan.{
   roundOf,
   rounds,
 }
+use Rattle.parse.specs.declared.rounds.Known.{Known}
 use Rattle.parse.specs.declared.rounds.Step.{Step}
 use Rattle.parse.specs.declared.rounds.Step.the-variants.{Stops, Passes}
 use Rattle.parse.specs.Inner.{stepOf}
@@ -146,6 +147,16 @@ module _ (i : ℕ) (u : List ℕ) where
       pub inline-room : r ≡ NoRoom → no-room ≡ behind i (inlineAt rst spaced u)
       unfolding inlineAt
       inline-room f = else-room (tried (rst .embedded) u) (referenceAt rst spaced u) (is-scanned f d ∙ e)
+
+    -- where neither finds a link, (d) does not
+    pub inline-unlinked : nothing ≡ behind i (inlineAt rst spaced u) → tried (rst .embedded) u ≡ nothing
+    unfolding inlineAt
+    inline-unlinked e = go (tried (rst .embedded) u) refl e
+      where
+        go : (z : Scanned) → tried (rst .embedded) u ≡ z → nothing ≡ behind i (followed rst u (orElse z (referenceAt rst spaced u))) → tried (rst .embedded) u ≡ nothing
+        go (found k x y m n) q f = absurd (found-nothing _ _ _ _ _ (sym f))
+        go nothing q f = q
+        go no-room q f = absurd (nothing-room f)
 
     -- (d) to (f)
     module _ (r : Scan) (d : List ℕ) (e : scannedOf r d ≡ behind i (inlineAt rst spaced u)) where
@@ -305,8 +316,8 @@ module _ (start : Bool) (s : List ℕ) (i : ℕ) (h : i < length s) (r : Step) (
   pub step-stops : (x : Scan) → r ≡ Stops x → scannedOf x d ≡ rounds rst 0 start i (drop i s)
   step-stops x f = sym (later-stops rst rst-consuming start s i h (scannedOf x d) (step-is (Stops x) f))
 
-  pub step-passes : (j shut : ℕ) → r ≡ Passes j shut → (rounds rst 0 start i (drop i s) ≡ rounds rst 0 false j (drop j s)) × (i < j) × (j ≤ length s)
-  step-passes j shut f = later-passes rst rst-consuming start s i h j (step-is (Passes j shut) f)
+  pub step-passes : (j : ℕ) (known : Known) → r ≡ Passes j known → (rounds rst 0 start i (drop i s) ≡ rounds rst 0 false j (drop j s)) × (i < j) × (j ≤ length s)
+  step-passes j known f = later-passes rst rst-consuming start s i h j (step-is (Passes j known) f)
 
 -- The scratch d of a text s is too short, or long enough.
 module _ (s d : List ℕ) (x : Scanned) where

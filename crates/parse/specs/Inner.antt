@@ -7,37 +7,60 @@ use mathlib.Core.List.{List}
 use mathlib.Core.Bool.{Bool, true, false}
 use mathlib.Core.Logic.{_⊎_}
 use lib.ListN.{length, drop, getD}
-use Rattle.rst_bytes.specs.Escaped.{isStop}
-use Rattle.rst_bytes.specs.declared.Part.the-variants.{Refused}
+use Rattle.rst_bytes.specs.Escaped.{isStop, taking}
+use Rattle.rst_bytes.specs.declared.Part.the-variants.{Taken, Refused}
 use Rattle.restructured_text.specs.Delimited.{backtickedOf}
+use Rattle.parse.specs.declared.rounds.Known.{Known}
 use Rattle.parse.specs.declared.rounds.Step.{Step}
 use Rattle.parse.specs.declared.rounds.Step.the-variants.{Stops, Passes}
 use Rattle.parse.specs.declared.Link.{Link}
 use Rattle.parse.specs.declared.Link.the-variants.{Text2Dest, TextLabel2Dest, Text2Label, Label2Dest, Label2Label}
 use Rattle.parse.specs.declared.buffers.Handed.{Handed}
 use Rattle.parse.specs.declared.buffers.Handed.the-variants.{Both, TooShort}
-use Rattle.parse.specs.Link.{Kind, found, scannedOf, Ends}
-use Rattle.parse.specs.Forms.{rst}
+use Rattle.parse.specs.Link.{Kind, found, nothing, scannedOf, Ends}
+use Rattle.parse.specs.Forms.{tried, rst}
 use Rattle.parse.specs.Scan.{Round, ends, passes, isPlain, rounds}
 use Rattle.parse.specs.Single.{Outcome, refusal, acceptance, handed}
 
--- from place m on and before place n of s no backtick begins a part that is closed by `_
+-- from place m on and before place n of s the claim holds of what begins with a backtick
+abbrev pub Ticks : (List ℕ → Type 0) → ℕ → ℕ → List ℕ → Type 0
+Ticks Claim m n s = (i : ℕ) → m ≤ i → i < n → getD s i 0 ≡ 0x60 → Claim (drop i s)
+
+-- no part that is closed by `_ begins there
+abbrev pub NoPart : List ℕ → Type 0
+NoPart s = (anonym : Bool) → backtickedOf anonym s ≡ Refused
+
 abbrev pub Shut : ℕ → ℕ → List ℕ → Type 0
-Shut m n s = (i : ℕ) → m ≤ i → i < n → getD s i 0 ≡ 0x60 → (anonym : Bool) → backtickedOf anonym (drop i s) ≡ Refused
+Shut m n s = Ticks NoPart m n s
+
+-- no embedded link begins there
+abbrev pub NoLink : List ℕ → Type 0
+NoLink s = tried (rst .embedded) s ≡ nothing
+
+abbrev pub Barren : ℕ → ℕ → List ℕ → Type 0
+Barren m n s = Ticks NoLink m n s
+
+-- the first unescaped backtick or < is <
+abbrev pub Opened : List ℕ → Type 0
+Opened s = (n : ℕ) × (taking 0x60 0x3C false 0 s ≡ Taken n) × (n < length s) × (getD s n 0 ≡ 0x3C)
+
+-- what is known of backticks from place m on is true
+abbrev pub Holds : ℕ → Known → List ℕ → Type 0
+Holds m known s = Shut m (known .shut) s × Barren m (known .barren) s
 
 -- what a step says, with the scratch as it was left: places count from the front of the text
 abbrev pub stepOf : Step → List ℕ → Round
 stepOf (Stops x) scratch = ends (scannedOf x scratch)
-stepOf (Passes next shut) scratch = passes next
+stepOf (Passes next known) scratch = passes next
 
 abbrev pub StepEnds : Step → Type 0
 StepEnds (Stops x) = Ends x
-StepEnds (Passes next shut) = Unit {0}
+StepEnds (Passes next known) = Unit {0}
 
 -- what is known of backticks from the next place on
-abbrev pub StepShut : List ℕ → Step → Type 0
-StepShut s (Stops x) = Unit {0}
-StepShut s (Passes next shut) = Shut next shut s
+abbrev pub StepHolds : List ℕ → Step → Type 0
+StepHolds s (Stops x) = Unit {0}
+StepHolds s (Passes next known) = Holds next known s
 
 -- from place i on and before place j of s no byte is _ or a backtick
 abbrev pub Calm : ℕ → ℕ → List ℕ → Type 0

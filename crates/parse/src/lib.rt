@@ -3,6 +3,7 @@
 // The third layer (document 01, "`parse.rs`: `take_link`"), over the promises of `restructured_text`. A public call asks nothing of
 // its caller and always returns; its contract is an equation with a definition of specs/.
 mod backtick;
+mod barren;
 mod buffers;
 mod calm;
 mod forms;
@@ -11,6 +12,7 @@ mod rounds;
 use crate::buffers::hand_over;
 use crate::buffers::is_place;
 use crate::calm::calm;
+use crate::rounds::Known;
 use crate::rounds::Step;
 use crate::rounds::round;
 use restructured_text::Span;
@@ -63,7 +65,7 @@ pub fn take_link(s: &[u8], scratch: &mut [u8]) -> Scan
     }
     let mut i = 0;
     let mut input_start = true;
-    let mut shut = 0;
+    let mut known = Known { shut: 0, barren: 0 };
     let mut looked = 0;
     while i < s.len() {
         let ahead = calm(s, i, looked);
@@ -73,14 +75,14 @@ pub fn take_link(s: &[u8], scratch: &mut [u8]) -> Scan
             input_start = false;
             continue;
         }
-        match round(s, i, scratch, input_start, shut) {
+        match round(s, i, scratch, input_start, known) {
             Step::Stops(x) => {
                 return x;
             }
-            Step::Passes(next, known) => {
+            Step::Passes(next, learnt) => {
                 i = next;
                 input_start = false;
-                shut = known;
+                known = learnt;
             }
         }
     }

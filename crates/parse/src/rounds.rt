@@ -1,21 +1,22 @@
 // One round of the scanner: (a) LFs, (b) blocks, (c) blanks, (d) embedded links, (e) references, (f) other bytes.
 //
 // A step takes the text and a place in it; one that tries parsers is also lent a scratch as long as the text. What an earlier round
-// learnt of backticks that are never closed is handed on as a place, so that they are not read again and again.
+// learnt of backticks is handed on as two places, so that the text behind them is not read again and again.
 use crate::Scan;
 use crate::backtick::unclosed;
+use crate::barren::barren;
 use crate::forms::block;
 use crate::forms::embedded;
 use crate::forms::reference;
 use rst_bytes::line::space0;
 ghost use mathlib.Core.Path.{_≡_};
-ghost use mathlib.Core.Bool.{_||_};
+ghost use mathlib.Core.Bool.{true, false, _||_};
 ghost use lib.Dec.{ltb};
 ghost use Prim.Native.Nat.{_≤_, _<_};
-ghost use lib.ListN.{length, drop};
+ghost use lib.ListN.{length, drop, getD};
 ghost use Rattle.rst_bytes.specs.Line.{bytesFrom};
-ghost use Rattle.parse.specs.Link.{scannedOf, Ends, behind};
-ghost use Rattle.parse.specs.Forms.{rst};
+ghost use Rattle.parse.specs.Link.{nothing, scannedOf, Ends, behind};
+ghost use Rattle.parse.specs.Forms.{tried, rst};
 ghost use Rattle.parse.specs.Scan.{
   lfsOf,
   blockAt,
@@ -31,13 +32,19 @@ ghost use Rattle.parse.specs.Scan.{
   roundOf,
   later,
 };
-ghost use Rattle.parse.specs.Inner.{Shut, stepOf, StepEnds, StepShut};
+ghost use Rattle.parse.specs.Inner.{Shut, Barren, Holds, stepOf, StepEnds, StepHolds};
 
-// A round's answer: the scan's; or the place where the next round starts, and a place up to which no backtick from there on need
-// be tried.
+// What is known of backticks from a place on: before `shut` none begins a part that is closed, and before `barren` none begins an
+// embedded link.
+pub struct Known {
+    pub shut: usize,
+    pub barren: usize,
+}
+
+// A round's answer: the scan's; or the place where the next round starts, and what is known from there on.
 pub enum Step {
     Stops(Scan),
-    Passes(usize, usize),
+    Passes(usize, Known),
 }
 
 // (a) How many LFs stand at the front.
@@ -171,44 +178,82 @@ fn shut_from(s: &[u8], i: usize, shut: usize) -> usize
     i + n
 }
 
-// (d) to (f).
-fn text_round(s: &[u8], i: usize, scratch: &mut [u8], spaced: bool, shut: usize) -> Step
-    requires room { ⌜ (i ≤ length (now s)) × (length (now s) ≤ length (now scratch)) ⌝ }
-    requires shut { ⌜ Shut i shut (now s) ⌝ }
+// Whether an embedded link may begin at place i: there is a backtick, and it is not known that none does.
+fn may_embed(s: &[u8], i: usize, barren: usize) -> bool
+    requires room { ⌜ i < length (now s) ⌝ }
+    requires barren { ⌜ Barren i barren (now s) ⌝ }
+    ensures tick { λ r. ⌜ (r ≡ true → getD (now (s .entry)) i 0 ≡ 0x60) ⌝ }
+    ensures none { λ r. ⌜ (r ≡ false → tried (rst .embedded) (drop i (now (s .entry))) ≡ nothing) ⌝ }
+{
+    let b = s[i];
+    if b == b'`' {
+        if i < barren {
+            return false;
+        }
+        return true;
+    }
+    false
+}
+
+// (d) to (f) at a backtick.
+fn backtick_round(s: &[u8], i: usize, scratch: &mut [u8], spaced: bool, known: Known) -> Step
+    requires room { ⌜ (i < length (now s)) × (length (now s) ≤ length (now scratch)) ⌝ }
+    requires tick { ⌜ getD (now s) i 0 ≡ 0x60 ⌝ }
+    requires known { ⌜ Holds i known (now s) ⌝ }
     ensures step { λ r. ⌜ stepOf r (now (scratch .exit)) ≡ later i (textRound rst spaced (drop i (now (s .entry)))) ⌝ }
     ensures ends { λ r. ⌜ StepEnds r ⌝ }
-    ensures shut { λ r. ⌜ StepShut (now (s .entry)) r ⌝ }
+    ensures known { λ r. ⌜ StepHolds (now (s .entry)) r ⌝ }
+{
+    let shut = shut_from(s, i, known.shut);
+    if i < shut {
+        let known = Known {
+            shut,
+            barren: known.barren,
+        };
+        return Step::Passes(passed(s, i), known);
+    }
+    match inline_at(s, i, scratch, spaced) {
+        Scan::Found(x) => Step::Stops(Scan::Found(x)),
+        Scan::NotFound => {
+            let n = barren(&s[i..]);
+            let known = Known {
+                shut,
+                barren: i + n,
+            };
+            Step::Passes(passed(s, i), known)
+        }
+        Scan::NoRoom => Step::Stops(Scan::NoRoom),
+    }
+}
+
+// (d) to (f).
+fn text_round(s: &[u8], i: usize, scratch: &mut [u8], spaced: bool, known: Known) -> Step
+    requires room { ⌜ (i ≤ length (now s)) × (length (now s) ≤ length (now scratch)) ⌝ }
+    requires known { ⌜ Holds i known (now s) ⌝ }
+    ensures step { λ r. ⌜ stepOf r (now (scratch .exit)) ≡ later i (textRound rst spaced (drop i (now (s .entry)))) ⌝ }
+    ensures ends { λ r. ⌜ StepEnds r ⌝ }
+    ensures known { λ r. ⌜ StepHolds (now (s .entry)) r ⌝ }
 {
     if s.len() <= i {
         return Step::Stops(Scan::NotFound);
     }
-    let b = s[i];
-    if b == b'`' {
-        let known = shut_from(s, i, shut);
-        if i < known {
-            return Step::Passes(passed(s, i), known);
-        }
-        match inline_at(s, i, scratch, spaced) {
-            Scan::Found(x) => Step::Stops(Scan::Found(x)),
-            Scan::NotFound => Step::Passes(passed(s, i), known),
-            Scan::NoRoom => Step::Stops(Scan::NoRoom),
-        }
-    } else {
-        match reference_at(s, i, scratch, spaced) {
-            Scan::Found(x) => Step::Stops(Scan::Found(x)),
-            Scan::NotFound => Step::Passes(passed(s, i), shut),
-            Scan::NoRoom => Step::Stops(Scan::NoRoom),
-        }
+    if may_embed(s, i, known.barren) {
+        return backtick_round(s, i, scratch, spaced, known);
+    }
+    match reference_at(s, i, scratch, spaced) {
+        Scan::Found(x) => Step::Stops(Scan::Found(x)),
+        Scan::NotFound => Step::Passes(passed(s, i), known),
+        Scan::NoRoom => Step::Stops(Scan::NoRoom),
     }
 }
 
 // (a) to (f).
-pub fn round(s: &[u8], i: usize, scratch: &mut [u8], start: bool, shut: usize) -> Step
+pub fn round(s: &[u8], i: usize, scratch: &mut [u8], start: bool, known: Known) -> Step
     requires room { ⌜ (i ≤ length (now s)) × (length (now s) ≤ length (now scratch)) ⌝ }
-    requires shut { ⌜ Shut i shut (now s) ⌝ }
+    requires known { ⌜ Holds i known (now s) ⌝ }
     ensures step { λ r. ⌜ stepOf r (now (scratch .exit)) ≡ later i (roundOf rst start (drop i (now (s .entry)))) ⌝ }
     ensures ends { λ r. ⌜ StepEnds r ⌝ }
-    ensures shut { λ r. ⌜ StepShut (now (s .entry)) r ⌝ }
+    ensures known { λ r. ⌜ StepHolds (now (s .entry)) r ⌝ }
 {
     let n = newlines(&s[i..]);
     let a = i + n;
@@ -224,5 +269,5 @@ pub fn round(s: &[u8], i: usize, scratch: &mut [u8], start: bool, shut: usize) -
     }
     let m = space0(&s[a..]);
     let spaced = starts(line, m);
-    text_round(s, a + m, scratch, spaced, shut)
+    text_round(s, a + m, scratch, spaced, known)
 }

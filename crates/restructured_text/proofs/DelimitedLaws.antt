@@ -19,7 +19,7 @@ use Rattle.rst_bytes.specs.declared.Part.{Part}
 use Rattle.rst_bytes.specs.declared.Part.the-variants.{Taken, Refused}
 use Rattle.rst_bytes.proofs.Lists.{drop-end}
 use Rattle.rst_bytes.proofs.TestLaws.{lt-or-le}
-use Rattle.rst_bytes.proofs.EscapedLaws.{refused-taken, taken-le, refused-lf, taken-lf, open-lf}
+use Rattle.rst_bytes.proofs.EscapedLaws.{refused-taken, taken-is, taken-le, refused-lf, taken-lf, open-lf}
 use Rattle.rst_bytes.proofs.TagLaws.{starts-le, starts-lf}
 use Rattle.restructured_text.specs.Delimited.{delimitedOf, endsWith, closing, backtickedOf}
 
@@ -48,14 +48,6 @@ pub record Delimited (l : List ℕ) (p q : ℕ) (r s : List ℕ) (n : ℕ) : Typ
   pub begins : startsWith l s ≡ true
   pub inner : escapedOf p q (drop (length l) s) ≡ Taken n
   pub ends : startsWith r (drop n (drop (length l) s)) ≡ true
-
--- a part is taken in one way
-pub taken-is : (m n : ℕ) → Taken m ≡ Taken n → m ≡ n
-taken-is m n e = ap count e
-  where
-    count : Part → ℕ
-    count (Taken k) = k
-    count Refused = m
 
 -- a delimited part that is taken has its tags
 pub delimited-is : (l : List ℕ) (p q : ℕ) (r s : List ℕ) (n : ℕ) → delimitedOf l p q r s ≡ Taken n → Delimited l p q r s n

@@ -2,26 +2,30 @@
 -- consumed, and how long the strings are; that there is always room; that nothing is found where no backticked run begins; and that
 -- LF and a tail behind the input change nothing.
 -- Assumes nothing.
-use Prim.Native.Nat.{ℕ, _+_, _<_, _≤_}
+use Prim.Native.Nat.{ℕ, suc, _+_, _-_, _<_, _≤_}
 use native.Mathlib.Omega.{arith}
 use mathlib.Core.Path.{_≡_, refl, sym, ap, _∙_}
 use mathlib.Core.List.{List, _∷_, _++_}
-use mathlib.Core.Bool.{Bool, true, false}
+use mathlib.Core.Bool.{Bool, true, false, true≢false}
 use mathlib.Core.Logic.{_⊎_, inl, inr}
-use lib.ListN.{length, drop, take}
-use lib.Seq.{take-length}
+use lib.ListN.{length, getD, drop, take}
+use lib.Seq.{take-length, take-append-add, drop-append-add}
 use Rattle.rst_bytes.specs.Appending.{Tail}
-use Rattle.rst_bytes.specs.declared.Part.the-variants.{Refused}
+use Rattle.rst_bytes.specs.Escaped.{taking}
+use Rattle.rst_bytes.specs.Trim.{trimOf}
+use Rattle.rst_bytes.specs.declared.Part.the-variants.{Taken, Refused}
 use Rattle.restructured_text.specs.declared.Span.{Span}
 use Rattle.restructured_text.specs.declared.Spans.{Spans}
 use Rattle.restructured_text.specs.declared.Spans.the-variants.{Parsed, Nothing}
-use Rattle.restructured_text.specs.Strings.{Link, link, none, no-room, linked, lent}
+use Rattle.restructured_text.specs.Transform.{Given, whole, refused, textOf, destinationOf}
+use Rattle.restructured_text.specs.Strings.{Link, link, none, no-room, part, paired, linked, lent}
 use Rattle.restructured_text.specs.Delimited.{backtickedOf}
 use Rattle.restructured_text.specs.Text2target.{text2targetOf}
 use Rattle.restructured_text.specs.Label.{parseText2labelOf}
 use Rattle.restructured_text.specs.Inline.{finishedOf, embeddedOf, text2destOf, textLabel2destOf, text2labelOf}
+use Rattle.restructured_text.proofs.TransformLaws.{refuses, text-over}
 use Rattle.restructured_text.proofs.StringsLaws.{none-link, none-room, linked-append, linked-front, linked-le, linked-room, lent-enough}
-use Rattle.restructured_text.proofs.Text2targetLaws.{form-none, Apart, text2target-apart, text2target-lf}
+use Rattle.restructured_text.proofs.Text2targetLaws.{form-none, Apart, Longer, ticked, angled, text2target-apart, text2target-lf, text2target-longer, text2target-unbracketed, text2target-opened}
 use Rattle.restructured_text.proofs.LabelLaws.{Placed, reference-refused, reference-placed, reference-lf}
 
 -- Two spans within the n bytes, at least one, that are consumed of a text of `size` bytes.
@@ -160,3 +164,43 @@ module _ (s t : List ℕ) (h : Tail t) where
   text2label-lf =
       ap (finishedOf false (s ++ 10 ∷ t)) (reference-lf s t (h .0))
       ∙ finished-append false s (10 ∷ t) (parseText2labelOf s) (reference-within s)
+
+-- An embedded link behind a backtick that stands in the text before < of another.
+
+-- two strings of which the first is refused or not as that of a pair without a link
+paired-alike : (g g′ h : Given) (n n′ : ℕ) → refuses g ≡ refuses g′ → paired g h n ≡ none → paired g′ h n′ ≡ none
+paired-alike (whole x) (whole x′) (whole y) n n′ e f = absurd (none-link x y n (sym f))
+paired-alike (whole x) (whole x′) (refused y) n n′ e f = refl
+paired-alike (whole x) (refused x′) h n n′ e f = refl
+paired-alike (refused x) (whole x′) h n n′ e f = absurd (true≢false e)
+paired-alike (refused x) (refused x′) h n n′ e f = refl
+
+module _ (l s : List ℕ) (some : 0 < length l) (open-taken : taking 0x60 0x3C false 0 l ≡ Taken (length l)) (trimmed : (t : List ℕ) → trimOf (l ++ t) ≡ length l + trimOf t) where
+  -- where there is none with l before it, there is none without
+  finished-longer : (x y : Spans) → Apart (length (0x60 ∷ s)) x → Longer 1 (length l) x y → finishedOf true (0x60 ∷ l ++ s) y ≡ none → finishedOf true (0x60 ∷ s) x ≡ none
+  finished-longer (Parsed a b n) y u w e =
+      let i : length l + b .start ≡ suc (length l + (b .start - 1)) = omega (arith, w .0) in
+      let j : b .start ≡ suc (b .start - 1) = omega (arith, w .0) in
+      let target : drop (length l + b .start) (0x60 ∷ l ++ s) ≡ drop (b .start) (0x60 ∷ s) = ap (λ (k : ℕ). drop k (0x60 ∷ l ++ s)) i ∙ drop-append-add l s (b .start - 1) ∙ sym (ap (λ (k : ℕ). drop k (0x60 ∷ s)) j) in
+      let text : take (a .len) (drop (a .start) (0x60 ∷ s)) ≡ take (a .len) s = ap (λ (k : ℕ). take (a .len) (drop k (0x60 ∷ s))) (w .0) in
+      let f = sym (ap (finishedOf true (0x60 ∷ l ++ s)) (w .1)) ∙ e in
+      paired-alike (textOf (take (length l + a .len) (l ++ s))) (textOf (part a (0x60 ∷ s))) (destinationOf (part b (0x60 ∷ s))) (length l + n) n
+      (ap (λ (r : List ℕ). refuses (textOf r)) (take-append-add l s (a .len)) ∙ text-over 0x60 0x3C l (take (a .len) s) open-taken ∙ ap (λ (r : List ℕ). refuses (textOf r)) (sym text))
+      (ap (λ (r : List ℕ). paired (textOf (take (length l + a .len) (l ++ s))) (destinationOf (take (b .len) r)) (length l + n)) (sym target) ∙ f)
+  finished-longer Nothing y u w e = refl
+
+  pub embedded-longer : (anonym : Bool) → embeddedOf anonym (0x60 ∷ l ++ s) ≡ none → embeddedOf anonym (0x60 ∷ s) ≡ none
+  embedded-longer anonym e =
+      finished-longer (text2targetOf anonym false (0x60 ∷ s)) (text2targetOf anonym false (0x60 ∷ l ++ s)) (text2target-apart anonym false (0x60 ∷ s))
+      (text2target-longer false l some (ticked l open-taken) (angled l open-taken) trimmed anonym s) e
+
+-- Nor is there one where no < stands before the next unescaped backtick.
+pub embedded-unbracketed : (s : List ℕ) (k : ℕ) → taking 0x60 0x3C false 0 s ≡ Taken k → k < length s → getD s k 0 ≡ 0x60 → (anonym : Bool) → embeddedOf anonym (0x60 ∷ s) ≡ none
+embedded-unbracketed s k e h f anonym = ap (finishedOf true (0x60 ∷ s)) (text2target-unbracketed anonym false s k e h f)
+
+-- Nor where two do: at place m, and j bytes behind it.
+pub embedded-opened :
+    (s : List ℕ) (m j : ℕ) → taking 0x60 0x3C false 0 s ≡ Taken m → m < length s → getD s m 0 ≡ 0x3C
+    → taking 0x60 0x3C false 0 (drop (m + 1) s) ≡ Taken j → j < length (drop (m + 1) s) → getD (drop (m + 1) s) j 0 ≡ 0x3C
+    → (anonym : Bool) → embeddedOf anonym (0x60 ∷ s) ≡ none
+embedded-opened s m j e h f e′ h′ f′ anonym = ap (finishedOf true (0x60 ∷ s)) (text2target-opened s m j e h f e′ h′ f′ anonym false)

@@ -12,10 +12,12 @@ use lib.Dec.{eqb}
 use lib.ListN.{length, take, drop, set, getD, take-append-drop, length-set, length-append}
 use lib.Seq.{take-suc-set, drop-set-lt, drop-drop, length-take-le, take-append-seam, drop-append-seam, drop-append-le}
 use borrow.Author.Tests.{eq-eqb, ne-eqb}
-use Rattle.rst_bytes.specs.Escaped.{isEscapable}
+use Rattle.rst_bytes.specs.Escaped.{isEscapable, isStop, taking}
+use Rattle.rst_bytes.specs.declared.Part.the-variants.{Taken}
 use Rattle.rst_bytes.specs.Line.{isMultispace, bytesFrom}
 use Rattle.rst_bytes.proofs.Lists.{drop-next, drop-two, drop-last, drop-end}
 use Rattle.rst_bytes.proofs.TestLaws.{by-test}
+use Rattle.rst_bytes.proofs.EscapedLaws.{refused-taken, taken-is}
 use Rattle.rst_bytes.proofs.LineLaws.{bytes-within, bytes-count}
 use Rattle.restructured_text.specs.declared.transform.Transformed.{Transformed}
 use Rattle.restructured_text.specs.declared.transform.Transformed.the-variants.{Text, Wrong}
@@ -398,3 +400,42 @@ kept-start = start keptOf one
     one b l e =
         other isDestinationEscapable (λ c. 0x5C ∷ c ∷ []) unblank b l (bare-apart b e .0)
         ∙ ap (λ (x : List ℕ). onto x (keptOf l)) (picks-second _ _ _ (bare-apart b e .1))
+
+-- whether a transform refuses
+abbrev pub refuses : Given → Bool
+refuses (whole l) = false
+refuses (refused l) = true
+
+refuses-onto : (a : List ℕ) (g : Given) → refuses (onto a g) ≡ refuses g
+refuses-onto a (whole l) = refl
+refuses-onto a (refused l) = refl
+
+-- behind a text that `escaped` takes as a whole, unescaping refuses if it does so there
+unescaped-over : (p q : ℕ) (keep : Bool) (l s : List ℕ) (n k : ℕ) → n + length l ≡ k → taking p q false n l ≡ Taken k → refuses (unescapedOf keep (l ++ s)) ≡ refuses (unescapedOf keep s)
+unfolding taking
+unescaped-over p q keep [] s n k h e = refl
+unescaped-over p q keep (b ∷ []) s n k h e =
+    by-test (λ x. x ≡ Taken k → refuses (unescapedOf keep (b ∷ s)) ≡ refuses (unescapedOf keep s)) (eqb b 0x5C) _ _
+    (λ f g. absurd (refused-taken k g))
+    (λ f g. ap refuses (other isEscapable (λ c. only (gives keep c) c) itself b s f) ∙ refuses-onto (itself b) (unescapedOf keep s))
+    e
+unescaped-over p q keep (b ∷ c ∷ l) s n k h e =
+    by-test (λ x. x ≡ Taken k → refuses (unescapedOf keep (b ∷ c ∷ l ++ s)) ≡ refuses (unescapedOf keep s)) (eqb b 0x5C) _ _
+    (λ f. by-test (λ x. x ≡ Taken k → refuses (unescapedOf keep (b ∷ c ∷ l ++ s)) ≡ refuses (unescapedOf keep s)) (isEscapable c) _ _
+    (λ g i.
+    ap refuses (escape isEscapable (λ d. only (gives keep d) d) itself b c (l ++ s) f g)
+    ∙ refuses-onto (only (gives keep c) c) (unescapedOf keep (l ++ s))
+    ∙ unescaped-over p q keep l s (n + 1 + 1) k (omega arith) i)
+    (λ g i. absurd (refused-taken k i)))
+    (λ f. by-test (λ x. x ≡ Taken k → refuses (unescapedOf keep (b ∷ c ∷ l ++ s)) ≡ refuses (unescapedOf keep s)) (isStop p q b) _ _
+    (λ g i. absurd (omega (arith, taken-is n k i)))
+    (λ g i.
+    ap refuses (other isEscapable (λ d. only (gives keep d) d) itself b (c ∷ l ++ s) f)
+    ∙ refuses-onto (itself b) (unescapedOf keep (c ∷ l ++ s))
+    ∙ unescaped-over p q keep (c ∷ l) s (n + 1) k (omega arith) i))
+    e
+
+-- so does the text transform
+pub text-over : (p q : ℕ) (l s : List ℕ) → taking p q false 0 l ≡ Taken (length l) → refuses (textOf (l ++ s)) ≡ refuses (textOf s)
+unfolding textOf
+text-over p q l s e = unescaped-over p q false l s 0 (length l) (omega arith) e

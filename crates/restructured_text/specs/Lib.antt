@@ -28,8 +28,10 @@
 --   parts        where some bytes of a text are replaced: PartLaws part-length, part-front, put-here, put-before, put-after, put-length
 --   one of two   a block is no alias and destination at once: TargetLaws alias-or-destination, destination-or-alias
 --   none         where no backticked run begins there is no inline form: InlineLaws text2dest-refused, text-label2dest-refused,
---                text2label-refused; DelimitedLaws backticked-other: another byte than a backtick begins no run; TargetLaws
---                no-target: where neither `.. _` nor `__ ` starts there is no target
+--                text2label-refused; DelimitedLaws backticked-other: another byte than a backtick begins no run; where the run that
+--                begins has no <, or two, there is no embedded link: InlineLaws embedded-unbracketed, embedded-opened; and where
+--                there is none with more text before it, there is none: embedded-longer; TargetLaws no-target: where neither
+--                `.. _` nor `__ ` starts there is no target
 --   calm         where no _ and no backtick stands before LF or the end (Calm) nothing is found: CalmLaws calm-text2dest,
 --                calm-text-label2dest, calm-text2label, calm-label2dest, calm-label2label
 --   appending    on s ++ 10 ∷ t, for `Tail t`: Text2targetLaws text2target-lf; LabelLaws simple-lf, reference-lf; InlineLaws

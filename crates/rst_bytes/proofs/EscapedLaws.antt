@@ -9,7 +9,8 @@ use mathlib.Core.Logic.{_⊎_, inl, inr, ⊎-elim}
 use native.Mathlib.Nat.{not-suc-le-zero, suc-ne-zero, sub-self}
 use native.Mathlib.Omega.{arith}
 use lib.Dec.{eqb}
-use lib.ListN.{length, getD, drop, length-append}
+use lib.ListN.{length, getD, drop, take, length-append, take-append-drop}
+use lib.Seq.{take-nil, length-take-le}
 use borrow.Author.Tests.{eq-eqb, ne-eqb, eqb-true}
 use Rattle.rst_bytes.specs.declared.Part.{Part}
 use Rattle.rst_bytes.specs.declared.Part.the-variants.{Taken, Refused}
@@ -141,6 +142,19 @@ taking-ends p q (b ∷ l) false n =
     (λ f. record { from = omega arith; within = omega arith; ended = λ h. rw sub-self f })
     (λ f. ends-before p q n b l (taking p q false (n + 1) l) (taking-ends p q l false (n + 1))))
 
+-- so what it ends before is a stop byte
+pub taking-stop : (p q : ℕ) (l : List ℕ) (m : ℕ) → taking p q false 0 l ≡ Taken m → m < length l → isStop p q (getD l m 0) ≡ true
+taking-stop p q l m e h =
+    let w : Ends p q 0 l m = subst (EndsOf p q 0 l) e (taking-ends p q l false 0) in
+    let z : m - 0 ≡ m = omega arith in
+    rw z at (w .ended (omega arith))
+
+-- and no more is taken than there is
+pub taking-le : (p q : ℕ) (l : List ℕ) (m : ℕ) → taking p q false 0 l ≡ Taken m → m ≤ length l
+taking-le p q l m e =
+    let w : Ends p q 0 l m = subst (EndsOf p q 0 l) e (taking-ends p q l false 0) in
+    omega (arith, w .within)
+
 -- and so does `escapedOf`
 escaped-ends : (p q : ℕ) (s : List ℕ) → EndsOf p q 0 s (escapedOf p q s)
 unfolding escapedOf
@@ -163,6 +177,14 @@ taken-stop p q s n e h =
 -- a part is refused or taken
 pub refused-taken : (n : ℕ) → Refused ≡ Taken n → ⊥
 refused-taken n e = let z : _≡_ {A = ℕ} 0 1 = cc in omega arith
+
+-- and taken in one way
+pub taken-is : (m n : ℕ) → Taken m ≡ Taken n → m ≡ n
+taken-is m n e = ap count e
+  where
+    count : Part → ℕ
+    count (Taken k) = k
+    count Refused = m
 
 -- what is taken, with k bytes before it
 abbrev later : ℕ → Part → Part
@@ -203,6 +225,143 @@ taken-from p q k s n e =
 pub taken-pos : (p q b : ℕ) (s : List ℕ) (n : ℕ) → escapedOf p q (b ∷ s) ≡ Taken n → 0 < n
 taken-pos p q b s zero e = absurd (refused-taken 0 (sym (first-stop p q (b ∷ s) (omega arith) (taken-stop p q (b ∷ s) 0 e (omega arith))) ∙ e))
 taken-pos p q b s (suc n) e = omega arith
+
+-- what is taken counted from k is taken
+pub taken-back : (p q k : ℕ) (l : List ℕ) (n : ℕ) → taking p q false k l ≡ Taken n → (k ≤ n) × (taking p q false 0 l ≡ Taken (n - k))
+taken-back p q k l n e = go (taking p q false 0 l) refl
+  where
+    is : later k (taking p q false 0 l) ≡ Taken n
+    is =
+        let z : k + 0 ≡ k = omega arith in
+        sym (taking-later p q k l false 0) ∙ ap (λ (m : ℕ). taking p q false m l) z ∙ e
+
+    go : (r : Part) → taking p q false 0 l ≡ r → (k ≤ n) × (taking p q false 0 l ≡ Taken (n - k))
+    go (Taken m) f =
+        let y : k + m ≡ n = taken-is (k + m) n (sym (ap (later k) f) ∙ is) in
+        let z : m ≡ n - k = omega arith in
+        (omega arith, f ∙ ap Taken z)
+    go Refused f = absurd (refused-taken n (sym (ap (later k) f) ∙ is))
+
+-- A text l that is taken as a whole.
+module _ (p q : ℕ) where
+  -- what stands behind it is read as if it stood alone
+  pub taking-over : (l w : List ℕ) (esc : Bool) (n k : ℕ) → n + length l ≡ k → taking p q esc n l ≡ Taken k → taking p q esc n (l ++ w) ≡ taking p q false k w
+  unfolding taking
+  taking-over [] w true n k h e = absurd (refused-taken k e)
+  taking-over [] w false n k h e = let z : n ≡ k = omega arith in ap (λ (m : ℕ). taking p q false m w) z
+  taking-over (b ∷ l) w true n k h e =
+      by-test₂ (λ x y. x ≡ Taken k → y ≡ taking p q false k w) (isEscapable b) _ _ _ _
+      (λ f. taking-over l w false (n + 1) k (omega arith))
+      (λ f g. absurd (refused-taken k g))
+      e
+  taking-over (b ∷ l) w false n k h e =
+      by-test₂ (λ x y. x ≡ Taken k → y ≡ taking p q false k w) (eqb b 0x5C) _ _ _ _
+      (λ f. taking-over l w true (n + 1) k (omega arith))
+      (λ f. by-test₂ (λ x y. x ≡ Taken k → y ≡ taking p q false k w) (isStop p q b) _ _ _ _
+      (λ g i. absurd (omega (arith, taken-is n k i)))
+      (λ g. taking-over l w false (n + 1) k (omega arith)))
+      e
+
+  -- it is taken with fewer stop bytes too
+  pub taking-fewer : (r t : ℕ) → ((b : ℕ) → isStop p q b ≡ false → isStop r t b ≡ false) → (l : List ℕ) (esc : Bool) (n k : ℕ) → n + length l ≡ k → taking p q esc n l ≡ Taken k → taking r t esc n l ≡ Taken k
+  unfolding taking
+  taking-fewer r t w [] true n k h e = e
+  taking-fewer r t w [] false n k h e = e
+  taking-fewer r t w (b ∷ l) true n k h e =
+      by-test₂ (λ x y. x ≡ Taken k → y ≡ Taken k) (isEscapable b) _ _ _ _
+      (λ f. taking-fewer r t w l false (n + 1) k (omega arith))
+      (λ f g. g)
+      e
+  taking-fewer r t w (b ∷ l) false n k h e =
+      by-test₂ (λ x y. x ≡ Taken k → y ≡ Taken k) (eqb b 0x5C) _ _ _ _
+      (λ f. taking-fewer r t w l true (n + 1) k (omega arith))
+      (λ f. by-test (λ x. x ≡ Taken k → elim (isStop r t b) [ true ↦ Taken n | false ↦ taking r t false (n + 1) l ] ≡ Taken k) (isStop p q b) _ _
+      (λ g i. absurd (omega (arith, taken-is n k i)))
+      (λ g i. by-test (λ y. y ≡ Taken k) (isStop r t b) _ _
+      (λ j. absurd (true≢false (sym j ∙ w b g)))
+      (λ j. taking-fewer r t w l false (n + 1) k (omega arith) i)))
+      e
+
+  -- a text before it that is not empty, and taken as a whole: both are taken
+  pub escaped-over : (l w : List ℕ) (n : ℕ) → isStop p q 0x5C ≡ false → 0 < length l → taking p q false 0 l ≡ Taken (length l) → escapedOf p q w ≡ Taken n → escapedOf p q (l ++ w) ≡ Taken (length l + n)
+  escaped-over [] w n c h e f = absurd (omega arith)
+  escaped-over (b ∷ l) w n c h e f = go (isStop p q b) refl (eqb b 0x5C) refl
+    where
+      over : isStop p q b ≡ false → escapedOf p q ((b ∷ l) ++ w) ≡ Taken (suc (length l) + n)
+      over g =
+          first-other p q (b ∷ l ++ w) (omega arith) g
+          ∙ taking-over (b ∷ l) w false 0 (suc (length l)) (omega arith) e
+          ∙ taken-from p q (suc (length l)) w n f
+
+      go : (x : Bool) → isStop p q b ≡ x → (y : Bool) → eqb b 0x5C ≡ y → escapedOf p q ((b ∷ l) ++ w) ≡ Taken (suc (length l) + n)
+      go false g y i = over g
+      go true g true i = absurd (true≢false (sym g ∙ ap (isStop p q) (eqb-true b 0x5C i) ∙ c))
+      go true g false i = absurd (omega (arith, taken-is 0 (suc (length l)) (sym (stop p q 0 b l i g) ∙ e)))
+
+-- A text l of which bytes are taken.
+module _ (p q : ℕ) (c : isStop p q 0x5C ≡ false) where
+  -- up to a stop byte among them, which a backslash takes along, it is taken as a whole
+  taking-cut : (l : List ℕ) (esc : Bool) (a n k : ℕ) → taking p q esc a l ≡ Taken n → isStop p q (getD l k 0) ≡ true → a + k < n → taking p q esc a (take (suc k) l) ≡ Taken (a + suc k)
+  unfolding taking
+  taking-cut [] true a n k e f h = absurd (refused-taken n e)
+  taking-cut [] false a n k e f h = absurd (omega (arith, taken-is a n e))
+  taking-cut (b ∷ l) true a n zero e f h =
+      by-test₂ (λ x y. x ≡ Taken n → y ≡ Taken (a + 1)) (isEscapable b) _ _ _ _ (λ g i. refl) (λ g i. absurd (refused-taken n i)) e
+  taking-cut (b ∷ l) true a n (suc k) e f h =
+      let z : a + 1 + suc k ≡ a + suc (suc k) = omega arith in
+      by-test₂ (λ x y. x ≡ Taken n → y ≡ Taken (a + suc (suc k))) (isEscapable b) _ _ _ _
+      (λ g i. taking-cut l false (a + 1) n k i f (omega arith) ∙ ap Taken z)
+      (λ g i. absurd (refused-taken n i))
+      e
+  taking-cut (b ∷ l) false a n zero e f h =
+      by-test (λ x. x ≡ Taken n → taking p q false a (b ∷ []) ≡ Taken (a + 1)) (eqb b 0x5C) _ _
+      (λ g i. absurd (true≢false (sym f ∙ ap (isStop p q) (eqb-true b 0x5C g) ∙ c)))
+      (λ g. by-test (λ x. x ≡ Taken n → taking p q false a (b ∷ []) ≡ Taken (a + 1)) (isStop p q b) _ _
+      (λ j i. absurd (omega (arith, taken-is a n i)))
+      (λ j i. absurd (true≢false (sym f ∙ j))))
+      e
+  taking-cut (b ∷ l) false a n (suc k) e f h =
+      let z : a + 1 + suc k ≡ a + suc (suc k) = omega arith in
+      by-test₂ (λ x y. x ≡ Taken n → y ≡ Taken (a + suc (suc k))) (eqb b 0x5C) _ _ _ _
+      (λ g i. taking-cut l true (a + 1) n k i f (omega arith) ∙ ap Taken z)
+      (λ g. by-test₂ (λ x y. x ≡ Taken n → y ≡ Taken (a + suc (suc k))) (isStop p q b) _ _ _ _
+      (λ j i. absurd (omega (arith, taken-is a n i)))
+      (λ j i. taking-cut l false (a + 1) n k i f (omega arith) ∙ ap Taken z))
+      e
+
+  -- what stands behind that byte is taken too
+  module _ (l : List ℕ) (n k : ℕ) (h : k < n) (e : taking p q false 0 l ≡ Taken n) (f : isStop p q (getD l k 0) ≡ true) where
+    pub cut-front : taking p q false 0 (take (suc k) l) ≡ Taken (suc k)
+    cut-front =
+        let z : 0 + suc k ≡ suc k = omega arith in
+        taking-cut l false 0 n k e f (omega arith) ∙ ap Taken z
+
+    pub cut-rest : suc k ≤ length l → taking p q false 0 (drop (suc k) l) ≡ Taken (n - suc k)
+    cut-rest g =
+        let u = taking-over p q (take (suc k) l) (drop (suc k) l) false 0 (suc k) (omega (arith, length-take-le (suc k) l g)) cut-front in
+        taken-back p q (suc k) (drop (suc k) l) n (sym u ∙ ap (taking p q false 0) (take-append-drop (suc k) l) ∙ e) .1
+
+-- the bytes that are taken are taken as a whole, if nothing stands behind them
+pub taking-front : (p q : ℕ) (l : List ℕ) (esc : Bool) (a k n : ℕ) → a + k ≡ n → taking p q esc a l ≡ Taken n → taking p q esc a (take k l) ≡ Taken n
+unfolding taking
+taking-front p q [] esc a k n h e = ap (taking p q esc a) (take-nil k) ∙ e
+taking-front p q (b ∷ l) true a zero n h e =
+    by-test (λ x. x ≡ Taken n → taking p q true a [] ≡ Taken n) (isEscapable b) _ _
+    (λ f g.
+    let w : Ends p q (a + 1) l n = subst (EndsOf p q (a + 1) l) g (taking-ends p q l false (a + 1)) in
+    absurd (omega (arith, w .from)))
+    (λ f g. g)
+    e
+taking-front p q (b ∷ l) false a zero n h e = let z : a ≡ n = omega arith in ap Taken z
+taking-front p q (b ∷ l) true a (suc k) n h e =
+    by-test₂ (λ x y. x ≡ Taken n → y ≡ Taken n) (isEscapable b) _ _ _ _ (λ f. taking-front p q l false (a + 1) k n (omega arith)) (λ f g. g) e
+taking-front p q (b ∷ l) false a (suc k) n h e =
+    by-test₂ (λ x y. x ≡ Taken n → y ≡ Taken n) (eqb b 0x5C) _ _ _ _
+    (λ f. taking-front p q l true (a + 1) k n (omega arith))
+    (λ f. by-test₂ (λ x y. x ≡ Taken n → y ≡ Taken n) (isStop p q b) _ _ _ _
+    (λ g i. i)
+    (λ g. taking-front p q l false (a + 1) k n (omega arith)))
+    e
 
 -- the first byte of a text without p and q, and the rest
 pub free-next : (p q b : ℕ) (l : List ℕ) → free p q (b ∷ l) ≡ true → (isStop p q b ≡ false) × (free p q l ≡ true)

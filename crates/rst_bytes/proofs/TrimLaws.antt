@@ -6,17 +6,17 @@ use Prim.Native.Nat.{ℕ, zero, suc, _+_, _-_, _<_, _≤_}
 use native.Mathlib.Omega.{arith}
 use mathlib.Core.Path.{_≡_, refl, sym, ap, _∙_}
 use mathlib.Core.Logic.{_⊎_, inl, inr, ⊎-elim}
-use mathlib.Core.List.{List, [], _∷_}
-use mathlib.Core.Bool.{Bool, true, false}
-use lib.ListN.{length, drop, length-drop}
-use lib.Seq.{drop-drop}
+use mathlib.Core.List.{List, [], _∷_, _++_, append-assoc}
+use mathlib.Core.Bool.{Bool, true, false, false≢true}
+use lib.ListN.{length, getD, drop, take, length-drop}
+use lib.Seq.{drop-drop, take-suc, length-take-le}
 use Rattle.rst_bytes.proofs.TestLaws.{lt-or-le}
 use borrow.Author.Tests.{eqb-true, eq-eqb}
-use Rattle.rst_bytes.specs.Domain.{charOf, run}
+use Rattle.rst_bytes.specs.Domain.{charOf, isPair, run}
 use Rattle.rst_bytes.specs.Trim.{isBlank, blankOf, blanks, trimOf}
 use Rattle.rst_bytes.specs.declared.Character.{Character}
 use Rattle.rst_bytes.specs.declared.Character.the-variants.{Starts, Nothing}
-use Rattle.rst_bytes.proofs.DomainLaws.{One, Two, clash, char-cases, char-within, inside-at, run-taken, run-ended, run-none, run-from}
+use Rattle.rst_bytes.proofs.DomainLaws.{One, Two, pair-bounds, clash, char-cases, char-within, inside-at, run-taken, run-ended, run-none, run-from}
 
 -- a blank character of n bytes stands at the front
 record Blank (s : List ℕ) (n : ℕ) : Type 0 where
@@ -171,3 +171,51 @@ trim-within (b ∷ s) = go (blanks (b ∷ s)) refl (trim-within s)
     go : (x : Bool) → blanks (b ∷ s) ≡ x → trimOf s ≤ length s → trimOf (b ∷ s) ≤ suc (length s)
     go true e h = simp (e, trimOf) (omega arith)
     go false e h = simp (e, trimOf) (omega arith)
+
+-- A text with a backtick: it is no blank character, nor the second byte of one.
+
+-- blank characters are a byte and blank characters, or two bytes of one character and blank characters
+blanks-next : (b : ℕ) (s : List ℕ) → blanks (b ∷ s) ≡ true → ((isBlank b ≡ true) × (blanks s ≡ true)) ⊎ ((isPair b (getD s 0 0) ≡ true) × (blanks (drop 1 s) ≡ true))
+blanks-next b s e =
+    let f = blanks-first (b ∷ s) e (omega arith) in
+    ⊎-elim
+    (λ (o : One (b ∷ s) (f .len) (f .blank .point)). inl (ap isBlank (sym (o .point)) ∙ f .blank .blank, ap (λ (n : ℕ). blanks (drop n (b ∷ s))) (sym (o .len)) ∙ f .rest))
+    (λ (o : Two (b ∷ s) (f .len) (f .blank .point)). inr (o .pair, ap (λ (n : ℕ). blanks (drop n (b ∷ s))) (sym (o .len)) ∙ f .rest))
+    (char-cases (b ∷ s) (f .len) (f .blank .point) (f .blank .char))
+
+backtick-unblank : isBlank 0x60 ≡ false
+unfolding isBlank
+backtick-unblank = refl
+
+blanks-backtick : (a b : List ℕ) → blanks (a ++ 0x60 ∷ b) ≡ true → ⊥
+blanks-backtick [] b e =
+    ⊎-elim
+    (λ w. false≢true (sym backtick-unblank ∙ w .0))
+    (λ w. absurd (omega (arith, pair-bounds _ _ (w .0) .first-low)))
+    (blanks-next 0x60 b e)
+blanks-backtick (x ∷ []) b e =
+    ⊎-elim
+    (λ w. blanks-backtick [] b (w .1))
+    (λ w. absurd (omega (arith, pair-bounds _ _ (w .0) .second-low)))
+    (blanks-next x (0x60 ∷ b) e)
+blanks-backtick (x ∷ y ∷ a) b e =
+    ⊎-elim (λ w. blanks-backtick (y ∷ a) b (w .1)) (λ w. blanks-backtick a b (w .1)) (blanks-next x (y ∷ a ++ 0x60 ∷ b) e)
+
+-- a byte from which on not only blank characters stand
+trim-next : (b : ℕ) (s : List ℕ) → (blanks (b ∷ s) ≡ true → ⊥) → trimOf (b ∷ s) ≡ suc (trimOf s)
+unfolding trimOf
+trim-next b s h = go (blanks (b ∷ s)) refl
+  where
+    go : (x : Bool) → blanks (b ∷ s) ≡ x → trimOf (b ∷ s) ≡ suc (trimOf s)
+    go true e = absurd (h e)
+    go false e = simp (e, trimOf)
+
+trim-backtick : (a b : List ℕ) → trimOf (a ++ 0x60 ∷ b) ≡ length a + suc (trimOf b)
+trim-backtick [] b = omega (arith, trim-next 0x60 b (blanks-backtick [] b))
+trim-backtick (x ∷ a) b = omega (arith, trim-next x (a ++ 0x60 ∷ b) (blanks-backtick (x ∷ a) b), trim-backtick a b)
+
+-- behind a backtick at place k of l, t is trimmed as if it stood alone
+pub trim-behind : (l t : List ℕ) (k : ℕ) → k < length l → getD l k 0 ≡ 0x60 → trimOf (take (suc k) l ++ t) ≡ suc k + trimOf t
+trim-behind l t k h e =
+    let a : take (suc k) l ++ t ≡ take k l ++ 0x60 ∷ t = ap (λ (x : List ℕ). x ++ t) (take-suc l k 0 h ∙ ap (λ (b : ℕ). take k l ++ (b ∷ [])) e) ∙ append-assoc (take k l) (0x60 ∷ []) t in
+    omega (arith, ap trimOf a, trim-backtick (take k l) t, length-take-le k l (omega arith))

@@ -21,11 +21,15 @@
 --
 -- Laws, proved in the file of proofs/ that is named, for the layers above:
 --   within the input   DomainLaws char-within, char-at-within, run-within, outside-within; WordLaws word-within; TrimLaws
---                      trim-within; EscapedLaws taken-le; LineLaws bytes-within, newline-le, line-ending-le, not-line-ending-le, space0-le,
+--                      trim-within; EscapedLaws taken-le, taking-le; LineLaws bytes-within, newline-le, line-ending-le, not-line-ending-le, space0-le,
 --                      space1-le, multispace0-le; TagLaws starts-le
 --   progress           DomainLaws char-within; EscapedLaws taken-pos; LineLaws newline-pos, line-ending-pos, space1-pos
---   what follows       DomainLaws char-inside, inside-at: no character starts inside another; EscapedLaws taken-stop: a part
---                      ends before a stop byte, stop-is: which is one of two, taken-from: it is the same counted from any number;
+--   what follows       DomainLaws char-inside, inside-at: no character starts inside another; EscapedLaws taken-stop, taking-stop: a part
+--                      ends before a stop byte, stop-is: which is one of two, taken-from, taken-back: it is the same counted from any number;
+--                      taking-front: it is taken as a whole; taking-over, escaped-over: what stands behind a text that is taken as a
+--                      whole is read as if it stood alone, taking-fewer: such a text is taken with fewer stop bytes too; cut-front,
+--                      cut-rest: so are the two parts, up to an escaped stop byte and behind it; TrimLaws trim-behind: what is trimmed
+--                      behind a backtick;
 --                      LineLaws not-line-ending-end: a line ends before a line ending, space0-starts, space0-free: what spaces and
 --                      tabs at the front begin with and lack; TagLaws starts-append, starts-space
 --   lists and tests    Lists part-from, drop-end, drop-next, drop-two, drop-last: parts of a list; TestLaws by-test, by-test₂, lt-or-le: what

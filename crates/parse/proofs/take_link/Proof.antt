@@ -8,19 +8,19 @@ use lib.ListN.{length, drop}
 use borrow.Author.Needs.{needs}
 use Rattle.parse.specs.Forms.{rst}
 use Rattle.parse.specs.Scan.{rounds, scanWith, scanOf}
-use Rattle.parse.specs.Inner.{Shut, StepEnds, StepShut}
+use Rattle.parse.specs.Inner.{NoPart, NoLink, Holds, StepEnds, StepHolds}
 use Rattle.parse.proofs.ScanLaws.{rounds-end}
-use Rattle.parse.proofs.BacktickLaws.{shut-none}
+use Rattle.parse.proofs.BacktickLaws.{ticks-none, holds-later}
 use Rattle.parse.proofs.RoundLaws.{step-stops, step-passes, lent-short, lent-enough}
 use Rattle.parse.proofs.take_link.Statement.{statement}
 use Rattle.parse.proofs.take_link.Tie as tie
 
 abbrev Inv-loop : tie.InvT-loop
-Inv-loop s scratch₀ i₀ input-start₀ shut₀ looked₀ scratch i input-start shut looked =
-    (i ≤ length s) × (length scratch ≡ length scratch₀) × (scanOf s ≡ rounds rst 0 input-start i (drop i s)) × Shut i shut s
+Inv-loop s scratch₀ i₀ input-start₀ known₀ looked₀ scratch i input-start known looked =
+    (i ≤ length s) × (length scratch ≡ length scratch₀) × (scanOf s ≡ rounds rst 0 input-start i (drop i s)) × Holds i known s
 
 abbrev μ-loop : tie.MeasureT-loop
-μ-loop s scratch₀ i₀ input-start₀ shut₀ looked₀ scratch i input-start shut looked = length s - i
+μ-loop s scratch₀ i₀ input-start₀ known₀ looked₀ scratch i input-start known looked = length s - i
 
 returns : tie.Need-returns Inv-loop μ-loop
 returns c =
@@ -31,7 +31,7 @@ loop-holds : tie.Need-loop-holds Inv-loop μ-loop
 unfolding scanOf scanWith
 loop-holds c =
     let s = c .before .before .before .args .s .now in
-    (omega arith, refl, refl, shut-none s 0 0 (omega arith))
+    (omega arith, refl, refl, (ticks-none NoPart s 0 0 (omega arith), ticks-none NoLink s 0 0 (omega arith)))
 
 calm-requires : tie.Need-calm-requires Inv-loop μ-loop
 calm-requires c κs = search needs
@@ -43,7 +43,7 @@ loop-again : tie.Need-loop-again Inv-loop μ-loop
 loop-again c =
     let l = c .before .before .before .before .loop in
     let a = c .before .before .calm .ensures in
-    (a .1, l .inv .1, l .inv .2 ∙ a .2 (c .if2 .taken) (l .input-start), λ k d e f. l .inv .3 k (omega (arith, a .0, d)) e f)
+    (a .1, l .inv .1, l .inv .2 ∙ a .2 (c .if2 .taken) (l .input-start), holds-later _ (l .i) _ (l .known) (a .0) (l .inv .3))
 
 round-requires : tie.Need-round-requires Inv-loop μ-loop
 round-requires c κs =
@@ -82,7 +82,7 @@ loop-again-2 c =
       p .2,
       omega (arith, l .inv .1, c .before .before .before .before .scratch .given),
       l .inv .2 ∙ p .0,
-      subst (StepShut (w .s .now)) (c .before .next .given .1) (c .before .before .before .before .before .round .ensures .1 .1),
+      subst (StepHolds (w .s .now)) (c .before .next .given .1) (c .before .before .before .before .before .round .ensures .1 .1),
     )
 
 same-length-2 : tie.Need-same-length-2 Inv-loop μ-loop

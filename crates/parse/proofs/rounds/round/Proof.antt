@@ -6,7 +6,7 @@ use mathlib.Core.Path.{subst, _∙_}
 use native.Mathlib.Omega.{arith}
 use lib.ListN.{drop}
 use Rattle.parse.specs.Link.{Ends}
-use Rattle.parse.proofs.BacktickLaws.{shut-later}
+use Rattle.parse.proofs.BacktickLaws.{holds-later}
 use Rattle.parse.proofs.RoundLaws.{line-found, line-blank, line-room, lfs-le, blanks-le, round-lines, line-text}
 use borrow.Author.Needs.{needs}
 use Rattle.parse.proofs.rounds.round.Statement.{statement}
@@ -101,7 +101,7 @@ text-round-requires c κs =
     let w = c .before .before .before .before .before .before .before .before .before .before .before .before .before .before .before .args in
     let n = c .before .before .before .before .before .before .before .before .before .before .before .newlines .result in
     let h = blanks-le (w .s .now) (w .i + n) _ (lfs-le (w .s .now) (w .i) _ (c .before .before .before .before .before .before .before .before .before .before .before .before .before .before .before .pre .0 .0) (c .before .before .before .before .before .before .before .before .before .before .before .newlines .ensures)) (c .before .before .space0 .ensures) in
-    ((h, omega (arith, c .before .before .before .before .before .before .before .before .before .before .before .before .before .before .before .pre .0 .1, c .before .before .before .before .before .before .before .scratch .given)), shut-later (w .s .now) (w .i) _ _ (omega arith) (c .before .before .before .before .before .before .before .before .before .before .before .before .before .before .before .pre .1))
+    ((h, omega (arith, c .before .before .before .before .before .before .before .before .before .before .before .before .before .before .before .pre .0 .1, c .before .before .before .before .before .before .before .scratch .given)), holds-later (w .s .now) (w .i) _ _ (omega arith) (c .before .before .before .before .before .before .before .before .before .before .before .before .before .before .before .pre .1))
 
 same-length-3 : tie.Need-same-length-3
 same-length-3 c = search needs
