@@ -1,29 +1,30 @@
--- Calm text is passed: where no `_` and no backtick stands from place i to place j, and a byte that (f) passes and then LF stand at j, or
--- the text ends there, each round from i on finds nothing and ends at j or before it. So the rounds from i on are those from j on.
+-- Calm text is passed: where no `_` and no backtick stands from place i to place j, and a byte that (f) passes and then LF or a blank stand
+-- at j, or the text ends there, each round from i on finds nothing and ends at j or before it. So the rounds from i on are those from j
+-- on. Before a blank this is so where no line starts, since the `_` of a target may stand behind it.
 -- Assumes nothing.
 use Prim.Native.Nat.{ℕ, zero, suc, _+_, _-_, _<_, _≤_}
 use native.Mathlib.Nat.{le-refl}
 use native.Mathlib.Omega.{arith}
 use mathlib.Core.Path.{_≡_, refl, sym, ap, subst, subst⁻¹, _∙_}
 use mathlib.Core.List.{List, [], _∷_, _++_}
-use mathlib.Core.Bool.{Bool, true, false, true≢false, false≢true}
+use mathlib.Core.Bool.{Bool, true, false, _||_, or-true, true≢false, false≢true}
 use mathlib.Core.Logic.{_⊎_, inl, inr, ⊎-elim}
-use lib.Dec.{eqb}
+use lib.Dec.{ltb, eqb}
 use lib.ListN.{length, drop, take, getD, length-drop, take-append-drop}
 use lib.Seq.{drop-drop, getD-take, getD-drop, length-take-le}
 use borrow.Author.Tests.{eqb-true}
 use Rattle.rst_bytes.specs.Appending.{free}
 use Rattle.rst_bytes.specs.Escaped.{isStop}
-use Rattle.rst_bytes.specs.Line.{bytesFrom, isSpace, space0Of}
+use Rattle.rst_bytes.specs.Line.{bytesFrom, isSpace, isMultispace, space0Of}
 use Rattle.rst_bytes.proofs.Lists.{drop-next, drop-end}
-use Rattle.rst_bytes.proofs.TestLaws.{by-test, lt-or-le}
+use Rattle.rst_bytes.proofs.TestLaws.{by-test, or-cases, lt-or-le}
 use Rattle.rst_bytes.proofs.LineLaws.{bytes-pass, bytes-stop, bytes-within, bytes-count}
-use Rattle.restructured_text.specs.Calm.{calm, Ended}
+use Rattle.restructured_text.specs.Calm.{calm, Parted, Ended}
 use Rattle.restructured_text.proofs.CalmLaws.{calm-drop, calm-text2dest, calm-text-label2dest, calm-text2label, calm-label2label, calm-label2dest}
 use Rattle.parse.specs.Link.{Scanned, found, nothing, behind, orElse}
 use Rattle.parse.specs.Forms.{alias, destination, anonymous, named, reference, tried, rst}
 use Rattle.parse.specs.Scan.{Round, ends, passes, later, isLf, lfsOf, isOpening, openingOf, referenceAt, blockAt, followed, inlineAt, isStart, isPlain, passedOf, textRound, blankRound, lineRound, roundOf, rounds}
-use Rattle.parse.specs.Inner.{Calm, Edge, Skips}
+use Rattle.parse.specs.Inner.{Calm, Lineless, Behind, Edge, Skips}
 use Rattle.parse.proofs.FormsLaws.{tried-next}
 use Rattle.parse.proofs.ScanLaws.{later-stops, later-passes, rounds-end, rst-consuming}
 use Rattle.parse.proofs.RoundLaws.{orGo, round-at, blank-at}
@@ -34,29 +35,53 @@ module _ (x z : List ℕ) (h : calm x ≡ true) (e : Ended z) where
   no-block true = tried-next alias (destination ∷ []) (x ++ z) (calm-label2label x z h e) ∙ tried-next destination [] (x ++ z) (calm-label2dest x z h e)
   no-block false = refl
 
+  -- so (b) finds nothing
+  line-passes : (line : Bool) → lineRound rst line (x ++ z) ≡ blankRound rst line (x ++ z)
+  unfolding lineRound
+  line-passes line = ap (λ (w : Scanned). orGo w (blankRound rst line (x ++ z))) (no-block line)
+
+-- nor does it at no line start
+line-none : (s : List ℕ) → lineRound rst false s ≡ blankRound rst false s
+unfolding lineRound
+line-none s = refl
+
+-- What is found there with white space and more behind it, or nothing.
+module _ (x z : List ℕ) (h : calm x ≡ true) (e : Parted z) where
   no-embedded : tried (rst .embedded) (x ++ z) ≡ nothing
   no-embedded = tried-next anonymous (named ∷ []) (x ++ z) (calm-text2dest x z h e) ∙ tried-next named [] (x ++ z) (calm-text-label2dest x z h e)
 
   no-label : tried (rst .references) (x ++ z) ≡ nothing
   no-label = tried-next reference [] (x ++ z) (calm-text2label x z h e)
 
+-- white space opens nothing
+white-opening : (c : ℕ) (z : List ℕ) → isMultispace c ≡ true → openingOf (c ∷ z) ≡ 0
+unfolding openingOf isOpening isMultispace
+white-opening c z h =
+    ⊎-elim (at 32 refl)
+    (λ i. ⊎-elim (at 9 refl)
+    (λ j. ⊎-elim (at 13 refl)
+    (λ k. ⊎-elim (at 10 refl) (λ l. absurd (false≢true l)) (or-cases (eqb c 10) _ k))
+    (or-cases (eqb c 13) _ j))
+    (or-cases (eqb c 9) _ i))
+    (or-cases (eqb c 32) _ h)
+  where
+    at : (n : ℕ) → openingOf (n ∷ z) ≡ 0 → eqb c n ≡ true → openingOf (c ∷ z) ≡ 0
+    at n w e = ap (λ (b : ℕ). openingOf (b ∷ z)) (eqb-true c n e) ∙ w
+
 -- one byte is skipped, or none
-no-reference : (spaced : Bool) (x z : List ℕ) → calm x ≡ true → Ended z → referenceAt rst spaced (x ++ z) ≡ nothing
+no-reference : (spaced : Bool) (x z : List ℕ) → calm x ≡ true → Parted z → referenceAt rst spaced (x ++ z) ≡ nothing
 unfolding openingOf isOpening
 no-reference false x z h e = refl
 no-reference true [] [] h e = ap (behind 0) (no-label [] [] h e)
-no-reference true [] (c ∷ z) h e = ap (λ (b : ℕ). referenceAt rst true (b ∷ z)) e ∙ ap (behind 0) (no-label [] (10 ∷ z) h refl)
+no-reference true [] (c ∷ z) h e =
+    ap (λ (n : ℕ). behind n (tried (rst .references) (drop n (c ∷ z)))) (white-opening c z e) ∙ ap (behind 0) (no-label [] (c ∷ z) h e)
 no-reference true (b ∷ x) z h e =
     by-test (λ n. behind n (tried (rst .references) (drop n (b ∷ (x ++ z)))) ≡ nothing) (isOpening b) _ _
     (λ f. ap (behind 1) (no-label x z (calm-drop 1 (b ∷ x) h) e))
     (λ f. ap (behind 0) (no-label (b ∷ x) z h e))
 
--- so (b) finds nothing, nor (d) and (e)
-module _ (x z : List ℕ) (h : calm x ≡ true) (e : Ended z) where
-  line-passes : (line : Bool) → lineRound rst line (x ++ z) ≡ blankRound rst line (x ++ z)
-  unfolding lineRound
-  line-passes line = ap (λ (w : Scanned). orGo w (blankRound rst line (x ++ z))) (no-block x z h e line)
-
+-- so (d) and (e) find nothing
+module _ (x z : List ℕ) (h : calm x ≡ true) (e : Parted z) where
   text-passes : (spaced : Bool) → textRound rst spaced (x ++ z) ≡ passedOf (x ++ z)
   unfolding textRound inlineAt
   text-passes spaced =
@@ -106,14 +131,40 @@ unfolding calm free
 all-calm [] h = refl
 all-calm (b ∷ s) h = rw (h 0 (omega arith), free) (all-calm s (λ k l. h (suc k) (omega arith)))
 
--- A text s that is calm up to place j, where it ends or where a byte that (f) passes and then LF stand.
-module _ (s : List ℕ) (j : ℕ) (l : j ≤ length s) (g : Edge j s) where
+-- LF, a space or a tab
+abbrev isBreak : ℕ → Bool
+isBreak b = isLf b || isSpace b
+
+-- all three are white space, and (f) stops at them
+break-white : (b : ℕ) → isBreak b ≡ true → isMultispace b ≡ true
+unfolding isSpace isMultispace
+break-white b h = go (eqb b 32) (eqb b 9) (eqb b 13) (eqb b 10) h
+  where
+    go : (p q r t : Bool) → (t || (p || (q || false))) ≡ true → (p || (q || (r || (t || false)))) ≡ true
+    go true q r t e = refl
+    go false true r t e = refl
+    go false false true t e = refl
+    go false false false true e = refl
+    go false false false false e = e
+
+break-start : (b : ℕ) → isBreak b ≡ true → isPlain b ≡ false
+break-start b h = go (isPlain b) refl
+  where
+    go : (t : Bool) → isPlain b ≡ t → t ≡ false
+    go true e = absurd (false≢true (sym (none (isLf b) (isSpace b) (plain-lf b e) (plain-space b e)) ∙ h))
+      where
+        none : (p q : Bool) → p ≡ false → q ≡ false → (p || q) ≡ false
+        none p q c d = simp (c, d)
+    go false e = refl
+
+-- A text s that is calm up to place j, where it ends or where a byte that (f) passes and then LF or a blank stand.
+module _ (s : List ℕ) (j : ℕ) (l : j ≤ length s) (g : (length s ≡ j) ⊎ Behind isBreak j s) where
   -- place m is at j only where s ends, else before it
   abbrev Short : ℕ → Type 0
   Short m = (m ≤ j) × ((m < j) ⊎ (length s ≡ j))
 
-  ended : Ended (drop j s)
-  ended = ⊎-elim (λ e. subst⁻¹ Ended (drop-end s j (omega arith)) tt) (λ w. subst⁻¹ Ended (drop-next s j (w .0)) (w .3)) g
+  parted : Parted (drop j s)
+  parted = ⊎-elim (λ e. subst⁻¹ Parted (drop-end s j (omega arith)) tt) (λ w. subst⁻¹ Parted (drop-next s j (w .0)) (break-white (getD s j 0) (w .3))) g
 
   -- the bytes from place i on that pass a test which those that (f) passes do not
   reach : (f : ℕ → Bool) → ((b : ℕ) → isPlain b ≡ true → f b ≡ false) → (i : ℕ) → Short i → Short (i + bytesFrom f 0 (drop i s))
@@ -125,7 +176,7 @@ module _ (s : List ℕ) (j : ℕ) (l : j ≤ length s) (g : Edge j s) where
       end : length s ≡ j → Short (i + bytesFrom f 0 (drop i s))
       end e = (omega (arith, within, e), inr e)
 
-      line : (j < length s) × (0 < j) × (isPlain (getD s (j - 1) 0) ≡ true) × (getD s j 0 ≡ 10) → Short (i + bytesFrom f 0 (drop i s))
+      line : Behind isBreak j s → Short (i + bytesFrom f 0 (drop i s))
       line w =
           let c : i < j = ⊎-elim (λ a. a) (λ a. omega (arith, a, w .0)) (h .1) in
           let b = bytes-before f s (j - 1) (omega (arith, w .0)) (np _ (w .2)) j i (omega arith) (omega arith) in
@@ -134,15 +185,14 @@ module _ (s : List ℕ) (j : ℕ) (l : j ≤ length s) (g : Edge j s) where
 
   -- what stands behind it, of which a byte is left
   passed-within : (c : ℕ) → c < j → c + (1 + bytesFrom isPlain 0 (drop (c + 1) s)) ≤ j
-  unfolding isStart
   passed-within c h = ⊎-elim end line g
     where
       end : length s ≡ j → c + (1 + bytesFrom isPlain 0 (drop (c + 1) s)) ≤ j
       end e = omega (arith, h, e, bytes-within isPlain (drop (c + 1) s), length-drop (c + 1) s)
 
-      line : (j < length s) × (0 < j) × (isPlain (getD s (j - 1) 0) ≡ true) × (getD s j 0 ≡ 10) → c + (1 + bytesFrom isPlain 0 (drop (c + 1) s)) ≤ j
+      line : Behind isBreak j s → c + (1 + bytesFrom isPlain 0 (drop (c + 1) s)) ≤ j
       line w =
-          let b = bytes-before isPlain s j (w .0) (ap isPlain (w .3)) j (c + 1) (omega arith) (omega arith) in
+          let b = bytes-before isPlain s j (w .0) (break-start (getD s j 0) (w .3)) j (c + 1) (omega arith) (omega arith) in
           omega (arith, b, bytes-count isPlain (drop (c + 1) s) (c + 1))
 
   module _ (i : ℕ) (h : i ≤ j) (q : Calm i j s) where
@@ -168,14 +218,22 @@ module _ (s : List ℕ) (j : ℕ) (l : j ≤ length s) (g : Edge j s) where
             ap (isStop 0x5F 0x60) (getD-take (j - i) (drop i s) k 0 (omega (arith, c, size)) ∙ getD-drop i s k 0)
             ∙ q (i + k) (omega arith) (omega (arith, c, size))
 
-    pub calm-line : (line : Bool) → lineRound rst line (drop i s) ≡ blankRound rst line (drop i s)
-    calm-line line = subst (λ (r : List ℕ). lineRound rst line r ≡ blankRound rst line r) part-is (line-passes part (drop j s) part-calm ended line)
+    pub calm-line : Ended (drop j s) → (line : Bool) → lineRound rst line (drop i s) ≡ blankRound rst line (drop i s)
+    calm-line e line = subst (λ (r : List ℕ). lineRound rst line r ≡ blankRound rst line r) part-is (line-passes part (drop j s) part-calm e line)
 
     pub calm-text : (spaced : Bool) → textRound rst spaced (drop i s) ≡ passedOf (drop i s)
-    calm-text spaced = subst (λ (r : List ℕ). textRound rst spaced r ≡ passedOf r) part-is (text-passes part (drop j s) part-calm ended spaced)
+    calm-text spaced = subst (λ (r : List ℕ). textRound rst spaced r ≡ passedOf r) part-is (text-passes part (drop j s) part-calm parted spaced)
+
+  -- no block is found from place i on: LF stands at j, or s ends there; or no line starts
+  abbrev Blockless : Bool → ℕ → Type 0
+  Blockless start i = Ended (drop j s) ⊎ ((start ≡ false) × Lineless i j s)
+
+  blockless-later : (start : Bool) (i m : ℕ) → i ≤ m → Blockless start i → Blockless false m
+  blockless-later start i m h (inl e) = inl e
+  blockless-later start i m h (inr w) = inr (refl, λ k a b. w .1 k (omega arith) b)
 
   -- a round from place i on: it passes blanks and some bytes, and ends by j, or finds that there is nothing left
-  module _ (i : ℕ) (h : i < j) (q : Calm i j s) (start : Bool) where
+  module _ (i : ℕ) (h : i < j) (q : Calm i j s) (start : Bool) (o : Blockless start i) where
     a : ℕ
     a = i + lfsOf (drop i s)
 
@@ -193,11 +251,26 @@ module _ (s : List ℕ) (j : ℕ) (l : j ≤ length s) (g : Edge j s) where
     later-calm : (m : ℕ) → i ≤ m → Calm m j s
     later-calm m b k d e = q k (omega arith) e
 
+    -- at no line start there are no LFs
+    no-lfs : Lineless i j s → lfsOf (drop i s) ≡ 0
+    no-lfs w =
+        let b = bytes-stop isLf s i (omega arith) (w i (le-refl i) h) in
+        omega (arith, b, bytes-count isLf (drop i s) i)
+
+    line-is : lineRound rst (start || ltb 0 (lfsOf (drop i s))) (drop a s) ≡ blankRound rst (start || ltb 0 (lfsOf (drop i s))) (drop a s)
+    unfolding a
+    line-is = ⊎-elim (λ e. calm-line a (short-a .0) (later-calm a (omega arith)) e _) none o
+      where
+        none : (start ≡ false) × Lineless i j s → lineRound rst (start || ltb 0 (lfsOf (drop i s))) (drop a s) ≡ blankRound rst (start || ltb 0 (lfsOf (drop i s))) (drop a s)
+        none w =
+            let e : (start || ltb 0 (lfsOf (drop i s))) ≡ false = ap (λ (b : Bool). b || ltb 0 (lfsOf (drop i s))) (w .0) ∙ ap (ltb 0) (no-lfs (w .1)) in
+            subst⁻¹ (λ (b : Bool). lineRound rst b (drop a s) ≡ blankRound rst b (drop a s)) e (line-none (drop a s))
+
     round-is : later i (roundOf rst start (drop i s)) ≡ later c (passedOf (drop c s))
     unfolding a c
     round-is =
         round-at start s i
-        ∙ ap (later a) (calm-line a (short-a .0) (later-calm a (omega arith)) _)
+        ∙ ap (later a) line-is
         ∙ blank-at _ s a
         ∙ ap (later c) (calm-text c (short-c .0) (later-calm c (omega arith)) _)
 
@@ -221,32 +294,44 @@ module _ (s : List ℕ) (j : ℕ) (l : j ≤ length s) (g : Edge j s) where
             inl (later-stops rst rst-consuming start s i (omega arith) nothing e ∙ sym (rounds-end rst false s j (omega arith)))
 
   -- round after round
-  rounds-calm : (k i : ℕ) → j ≤ i + k → i < j → Calm i j s → (start : Bool) → rounds rst 0 start i (drop i s) ≡ rounds rst 0 false j (drop j s)
-  rounds-calm zero i b h q start = absurd (omega arith)
-  rounds-calm (suc k) i b h q start = go (rounds-calm k) (round-goes i h q start)
+  rounds-calm : (k i : ℕ) → j ≤ i + k → i < j → Calm i j s → (start : Bool) → Blockless start i → rounds rst 0 start i (drop i s) ≡ rounds rst 0 false j (drop j s)
+  rounds-calm zero i b h q start o = absurd (omega arith)
+  rounds-calm (suc k) i b h q start o = go (rounds-calm k) (round-goes i h q start o)
     where
       go :
-          ((m : ℕ) → j ≤ m + k → m < j → Calm m j s → (t : Bool) → rounds rst 0 t m (drop m s) ≡ rounds rst 0 false j (drop j s))
+          ((m : ℕ) → j ≤ m + k → m < j → Calm m j s → (t : Bool) → Blockless t m → rounds rst 0 t m (drop m s) ≡ rounds rst 0 false j (drop j s))
           → (rounds rst 0 start i (drop i s) ≡ rounds rst 0 false j (drop j s)) ⊎ ((m : ℕ) × ((rounds rst 0 start i (drop i s) ≡ rounds rst 0 false m (drop m s)) × (i < m) × (m ≤ j)))
           → rounds rst 0 start i (drop i s) ≡ rounds rst 0 false j (drop j s)
       go ih (inl e) = e
       go ih (inr (m, (e, d, f))) = ⊎-elim less same (lt-or-le m j)
         where
           less : m < j → rounds rst 0 start i (drop i s) ≡ rounds rst 0 false j (drop j s)
-          less x = e ∙ ih m (omega arith) x (λ n y z. q n (omega arith) z) false
+          less x = e ∙ ih m (omega arith) x (λ n y z. q n (omega arith) z) false (blockless-later start i m (omega arith) o)
 
           same : j ≤ m → rounds rst 0 start i (drop i s) ≡ rounds rst 0 false j (drop j s)
           same x = let z : m ≡ j = omega arith in e ∙ ap (λ (n : ℕ). rounds rst 0 false n (drop n s)) z
 
-  pub calm-skips : (i : ℕ) → i ≤ j → Calm i j s → Skips i j s
-  calm-skips i h q = (h, l, λ d start. rounds-calm j i (omega arith) d q start)
+  skips : (start : Bool) (i : ℕ) → i ≤ j → Calm i j s → Blockless start i → Skips start i j s
+  skips start i h q o = (h, l, λ d. rounds-calm j i (omega arith) d q start o)
 
--- The loop of `calm`, by the code's tests.
+-- up to the end of a line
+pub calm-skips : (s : List ℕ) (j : ℕ) → j ≤ length s → Edge j s → (i : ℕ) → i ≤ j → Calm i j s → (start : Bool) → Skips start i j s
+calm-skips s j l g i h q start = skips s j l (⊎-elim inl (λ w. inr (w .0, w .1, w .2, rw (w .3) refl)) g) start i h q (inl ended)
+  where
+    ended : Ended (drop j s)
+    ended = ⊎-elim (λ e. subst⁻¹ Ended (drop-end s j (omega arith)) tt) (λ w. subst⁻¹ Ended (drop-next s j (w .0)) (eqb-true (getD s j 0) 10 (w .3))) g
+
+-- up to a blank, where no line starts
+pub gap-skips : (s : List ℕ) (i j : ℕ) → i ≤ j → Behind isSpace j s → Calm i j s → Lineless i j s → Skips false i j s
+gap-skips s i j h w q o =
+    skips s j (omega (arith, w .0)) (inr (w .0, w .1, w .2, rw (w .3) (or-true (isLf (getD s j 0))))) false i h q (inr (refl, o))
+
+-- The loops of calm.rt, by the code's tests.
 pub calm-none : (i : ℕ) (s : List ℕ) → Calm i i s
 calm-none i s k a b = absurd (omega arith)
 
-pub skips-none : (i : ℕ) (s : List ℕ) → i ≤ length s → Skips i i s
-skips-none i s h = (le-refl i, h, λ d start. absurd (omega arith))
+pub skips-none : (start : Bool) (i : ℕ) (s : List ℕ) → i ≤ length s → Skips start i i s
+skips-none start i s h = (le-refl i, h, λ d. absurd (omega arith))
 
 -- one byte more that is no mark
 pub calm-next : (i j : ℕ) (s : List ℕ) → Calm i j s → isStop 0x5F 0x60 (getD s j 0) ≡ false → Calm i (j + 1) s
@@ -255,3 +340,10 @@ calm-next i j s q e k a b =
 
 pub calm-join : (i j k : ℕ) (s : List ℕ) → Calm i j s → Calm j k s → Calm i k s
 calm-join i j k s q r n a b = ⊎-elim (λ c. q n a c) (λ c. r n c b) (lt-or-le n j)
+
+pub lineless-none : (i : ℕ) (s : List ℕ) → Lineless i i s
+lineless-none i s k a b = absurd (omega arith)
+
+pub lineless-next : (i j : ℕ) (s : List ℕ) → Lineless i j s → isLf (getD s j 0) ≡ false → Lineless i (j + 1) s
+lineless-next i j s q e k a b =
+    ⊎-elim (λ c. q k a c) (λ c. let z : k ≡ j = omega arith in ap (λ (n : ℕ). isLf (getD s n 0)) z ∙ e) (lt-or-le k j)

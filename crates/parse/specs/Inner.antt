@@ -19,7 +19,7 @@ use Rattle.parse.specs.declared.buffers.Handed.{Handed}
 use Rattle.parse.specs.declared.buffers.Handed.the-variants.{Both, TooShort}
 use Rattle.parse.specs.Link.{Kind, found, nothing, scannedOf, Ends}
 use Rattle.parse.specs.Forms.{tried, rst}
-use Rattle.parse.specs.Scan.{Round, ends, passes, isPlain, rounds}
+use Rattle.parse.specs.Scan.{Round, ends, passes, isLf, isPlain, rounds}
 use Rattle.parse.specs.Single.{Outcome, refusal, acceptance, handed}
 
 -- from place m on and before place n of s the claim holds of what begins with a backtick
@@ -66,13 +66,21 @@ StepHolds s (Passes next known) = Holds next known s
 abbrev pub Calm : ℕ → ℕ → List ℕ → Type 0
 Calm i j s = (k : ℕ) → i ≤ k → k < j → isStop 0x5F 0x60 (getD s k 0) ≡ false
 
+-- nor LF
+abbrev pub Lineless : ℕ → ℕ → List ℕ → Type 0
+Lineless i j s = (k : ℕ) → i ≤ k → k < j → isLf (getD s k 0) ≡ false
+
+-- a byte of that kind stands at place j of s, behind one that (f) passes
+abbrev pub Behind : (ℕ → Bool) → ℕ → List ℕ → Type 0
+Behind f j s = (j < length s) × (0 < j) × (isPlain (getD s (j - 1) 0) ≡ true) × (f (getD s j 0) ≡ true)
+
 -- s ends at place j; or LF stands there, behind a byte that (f) passes
 abbrev pub Edge : ℕ → List ℕ → Type 0
-Edge j s = (length s ≡ j) ⊎ ((j < length s) × (0 < j) × (isPlain (getD s (j - 1) 0) ≡ true) × (getD s j 0 ≡ 10))
+Edge j s = (length s ≡ j) ⊎ Behind isLf j s
 
 -- the rounds from place i on of s are those from place j on
-abbrev pub Skips : ℕ → ℕ → List ℕ → Type 0
-Skips i j s = (i ≤ j) × (j ≤ length s) × (i < j → (start : Bool) → rounds rst 0 start i (drop i s) ≡ rounds rst 0 false j (drop j s))
+abbrev pub Skips : Bool → ℕ → ℕ → List ℕ → Type 0
+Skips start i j s = (i ≤ j) × (j ≤ length s) × (i < j → rounds rst 0 start i (drop i s) ≡ rounds rst 0 false j (drop j s))
 
 -- both strings end within the first n bytes of the scratch
 abbrev pub LinkWithin : ℕ → Link → Type 0

@@ -22,7 +22,7 @@
 --                      each link of a text, which has at least one byte; single-small: the lengths and places of the single-link
 --                      answer are at most that of the longest document
 --   calm               CalmLaws calm-skips: the rounds from a place on are those from a later one on, where no _ and no backtick stands
---                      between and (f) ends there
+--                      between and (f) ends there, before LF or the end; gap-skips: or before a blank, where no line starts
 --   in order and apart LinksLaws links-apart *, links-of-apart: each link starts at or after the end of the one before
 --   appending          on s ++ 10 ∷ t, for `Tail t` and `Body s`: AppendingLaws scan-lf: a link found in s is found alike; scan-none-lf:
 --                      where none is, whatever is found starts past the LF; links-lf: the links are those of s and then some that start

@@ -66,10 +66,12 @@ pub fn take_link(s: &[u8], scratch: &mut [u8]) -> Scan
     let mut i = 0;
     let mut input_start = true;
     let mut known = Known { shut: 0, barren: 0 };
-    let mut looked = 0;
+    let mut lines = 0;
+    let mut words = 0;
     while i < s.len() {
-        let ahead = calm(s, i, looked);
-        looked = ahead.looked;
+        let ahead = calm(s, i, lines, words, input_start);
+        lines = ahead.lines;
+        words = ahead.words;
         if i < ahead.next {
             i = ahead.next;
             input_start = false;

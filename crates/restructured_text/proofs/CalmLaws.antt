@@ -1,30 +1,31 @@
--- Text without links: where no `_` and no backtick stands before LF, or before the end, no parser finds anything. A reference ends with
--- `_` or begins with a backtick, as an embedded link does; a target has a `_` before its name, and none of the bytes before that is LF.
+-- Text without links: where no `_` and no backtick stands before white space, or before the end, no inline form is found. A reference ends
+-- with `_` or begins with a backtick, as an embedded link does, and white space is in no word. Where none stands before LF, or before the
+-- end, there is no target either: it has a `_` before its name, and none of the bytes before that is LF.
 -- Assumes nothing.
-use Prim.Native.Nat.{ℕ, zero, suc, _-_}
+use Prim.Native.Nat.{ℕ, zero, suc, _-_, _<_}
 use native.Mathlib.Omega.{arith}
-use mathlib.Core.Path.{_≡_, refl, sym, ap, _∙_}
+use mathlib.Core.Path.{_≡_, refl, sym, ap, subst⁻¹, _∙_}
 use mathlib.Core.List.{List, [], _∷_, _++_, append-nil}
 use mathlib.Core.Bool.{Bool, true, false, _&&_, _||_, and-false, true≢false, false≢true}
-use mathlib.Core.Logic.{inr}
+use mathlib.Core.Logic.{inr, ⊎-elim}
 use lib.Dec.{leb, eqb}
 use lib.ListN.{length, drop, take}
 use lib.Seq.{take-append-le, drop-append-le}
 use borrow.Author.Tests.{eqb-true}
 use Rattle.rst_bytes.specs.Appending.{free}
 use Rattle.rst_bytes.specs.Escaped.{isStop}
-use Rattle.rst_bytes.specs.Line.{space0Of}
+use Rattle.rst_bytes.specs.Line.{isMultispace, space0Of}
 use Rattle.rst_bytes.specs.Tag.{startsWith}
-use Rattle.rst_bytes.specs.Word.{wordOf}
+use Rattle.rst_bytes.specs.Word.{isAsciiWord, wordOf}
 use Rattle.rst_bytes.specs.declared.Part.the-variants.{Refused}
-use Rattle.rst_bytes.proofs.TestLaws.{by-test}
+use Rattle.rst_bytes.proofs.TestLaws.{or-cases}
 use Rattle.rst_bytes.proofs.EscapedLaws.{free-next}
 use Rattle.rst_bytes.proofs.LineLaws.{space0-le, space0-lf}
-use Rattle.rst_bytes.proofs.TagLaws.{starts-lf}
-use Rattle.rst_bytes.proofs.WordLaws.{word-within, word-lf}
+use Rattle.rst_bytes.proofs.TagLaws.{starts-byte, starts-lf}
+use Rattle.rst_bytes.proofs.WordLaws.{word-within, word-ended}
 use Rattle.restructured_text.specs.declared.Spans.the-variants.{Nothing}
 use Rattle.restructured_text.specs.declared.label.SimpleLabel.the-variants.{NoLabel}
-use Rattle.restructured_text.specs.Calm.{calm, Ended}
+use Rattle.restructured_text.specs.Calm.{calm, Parted, Ended}
 use Rattle.restructured_text.specs.Delimited.{endsWith, closing, backtickedOf}
 use Rattle.restructured_text.specs.Label.{wordLabelOf, parseText2labelOf}
 use Rattle.restructured_text.specs.Strings.{none}
@@ -67,6 +68,29 @@ calm-take (suc n) (b ∷ s) h =
     let w = free-next 0x5F 0x60 b s h in
     calm-next b (take n s) (w .0) (calm-take n s (w .1))
 
+-- white space is below 80, in no word, and no backtick
+abbrev White : ℕ → Type 0
+White b = (b < 0x80) × (isAsciiWord b ≡ false) × (free b b (0x60 ∷ []) ≡ true)
+
+white : (b : ℕ) → isMultispace b ≡ true → White b
+unfolding isMultispace isAsciiWord free isStop
+white b h =
+    ⊎-elim (at 32 (omega arith, refl, refl))
+    (λ i. ⊎-elim (at 9 (omega arith, refl, refl))
+    (λ j. ⊎-elim (at 13 (omega arith, refl, refl))
+    (λ k. ⊎-elim (at 10 (omega arith, refl, refl)) (λ l. absurd (false≢true l)) (or-cases (eqb b 10) _ k))
+    (or-cases (eqb b 13) _ j))
+    (or-cases (eqb b 9) _ i))
+    (or-cases (eqb b 32) _ h)
+  where
+    at : (n : ℕ) → White n → eqb b n ≡ true → White b
+    at n w e = subst⁻¹ White (eqb-true b n e) w
+
+-- white space and more behind a text, or nothing: what white space does not change
+parted : {A : Type 0} (f : List ℕ → A) (x z : List ℕ) → Parted z → ((b : ℕ) → White b → (t : List ℕ) → f (x ++ b ∷ t) ≡ f x) → f (x ++ z) ≡ f x
+parted f x [] h g = ap f (append-nil x)
+parted f x (b ∷ t) h g = g b (white b h) t
+
 -- LF and more behind a text, or nothing: what LF does not change
 ended : {A : Type 0} (f : List ℕ → A) (x z : List ℕ) → Ended z → ((t : List ℕ) → f (x ++ 10 ∷ t) ≡ f x) → f (x ++ z) ≡ f x
 ended f x [] h g = ap f (append-nil x)
@@ -86,15 +110,14 @@ not-ends p x h k =
     ap (λ (b : Bool). leb (length p) (length x) && b) (not-starts p (drop (length x - length p) x) (calm-drop (length x - length p) x h) k)
     ∙ and-false (leb (length p) (length x))
 
--- A calm text x, and z: nothing, or LF and more.
-module _ (x z : List ℕ) (h : calm x ≡ true) (e : Ended z) where
-  no-start : (p : List ℕ) → calm p ≡ false → free 10 10 p ≡ true → startsWith p (x ++ z) ≡ false
-  no-start p k f = ended (startsWith p) x z e (λ t. starts-lf p x t f) ∙ not-starts p x h k
-
+-- A calm text x, and z: nothing, or white space and more.
+module _ (x z : List ℕ) (h : calm x ≡ true) (e : Parted z) where
   -- no backticked run begins
   no-backtick : (anonym : Bool) → backtickedOf anonym (x ++ z) ≡ Refused
   unfolding calm free isStop
-  no-backtick anonym = delimited-none (0x60 ∷ []) 0x60 0x60 (closing anonym) (x ++ z) (no-start (0x60 ∷ []) refl refl)
+  no-backtick anonym =
+      delimited-none (0x60 ∷ []) 0x60 0x60 (closing anonym) (x ++ z)
+      (parted (startsWith (0x60 ∷ [])) x z e (λ b w t. starts-byte b (0x60 ∷ []) x t (w .2)) ∙ not-starts (0x60 ∷ []) x h refl)
 
   pub calm-text2dest : text2destOf (x ++ z) ≡ none
   calm-text2dest = text2dest-refused (x ++ z) (no-backtick true)
@@ -110,7 +133,7 @@ module _ (x z : List ℕ) (h : calm x ≡ true) (e : Ended z) where
       (inr (not-ends (0x5F ∷ 0x5F ∷ []) _ (calm-take (wordOf x) x h) refl)) (not-ends (0x5F ∷ []) _ (calm-take (wordOf x) x h) refl)
     where
       is : wordOf (x ++ z) ≡ wordOf x
-      is = ended wordOf x z e (word-lf x)
+      is = parted wordOf x z e (λ b w t. word-ended b (w .0) (w .1) x t)
 
   pub calm-text2label : text2labelOf (x ++ z) ≡ none
   unfolding text2labelOf
@@ -120,6 +143,8 @@ module _ (x z : List ℕ) (h : calm x ≡ true) (e : Ended z) where
       (form-simple (x ++ z) NoLabel (form-none false true (x ++ z) (no-backtick false))
       (simple-none (x ++ z) (raw-word (x ++ z) (no-backtick false) ∙ no-word))))
 
+-- A calm text x, and z: nothing, or LF and more.
+module _ (x z : List ℕ) (h : calm x ≡ true) (e : Ended z) where
   -- no target starts
   no-target-starts : startsTarget (x ++ z) ≡ false
   unfolding startsTarget calm free isStop

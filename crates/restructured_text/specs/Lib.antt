@@ -32,8 +32,8 @@
 --                begins has no <, or two, there is no embedded link: InlineLaws embedded-unbracketed, embedded-opened; and where
 --                there is none with more text before it, there is none: embedded-longer; TargetLaws no-target: where neither
 --                `.. _` nor `__ ` starts there is no target
---   calm         where no _ and no backtick stands before LF or the end (Calm) nothing is found: CalmLaws calm-text2dest,
---                calm-text-label2dest, calm-text2label, calm-label2dest, calm-label2label
+--   calm         where no _ and no backtick stands before white space or the end (Calm) no inline form is found: CalmLaws calm-text2dest,
+--                calm-text-label2dest, calm-text2label; before LF or the end no target either: calm-label2dest, calm-label2label
 --   appending    on s ++ 10 ∷ t, for `Tail t`: Text2targetLaws text2target-lf; LabelLaws simple-lf, reference-lf; InlineLaws
 --                text2dest-lf, text-label2dest-lf, text2label-lf; for `Tail t` and `Body s`: BlockLaws block-lf; TargetLaws
 --                label2target-lf, label2dest-lf, label2label-lf

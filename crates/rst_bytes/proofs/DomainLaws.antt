@@ -1,5 +1,5 @@
 -- The laws of characters and of runs of them: the character at a position, lengths, one step of a run, bytes that are all below 80, and
--- what a line feed behind the text changes. Up to `char-lf` they go by the two kinds of characters; the laws of `run` need only these.
+-- what a byte below 80 behind the text changes. Up to `char-low` they go by the two kinds of characters; the laws of `run` need only these.
 -- Assumes nothing.
 use Prim.Native.Nat.{ℕ, zero, suc, _+_, _-_, _<_, _≤_}
 use native.Mathlib.Nat.{add-zero, add-assoc}
@@ -152,23 +152,25 @@ inside-at s k n p j e h l =
     let i : k + (j - k) ≡ j = omega arith in
     rw i at (ap charOf (sym (drop-drop (j - k) k s)) ∙ char-inside (drop k s) n p (j - k) e (omega arith) (omega arith))
 
-lf-no-second : (b : ℕ) → isPair b 10 ≡ false
-unfolding isPair
-lf-no-second b = simp and-false
+-- A byte below 80 is a character by itself, and no second byte of one.
+module _ (c : ℕ) (l : c < 0x80) where
+  low-no-second : (b : ℕ) → isPair b c ≡ false
+  unfolding isPair
+  low-no-second b = simp (lt-leb 0x80 c l, and-false)
 
-lf-char : (t : List ℕ) → charOf (10 ∷ t) ≡ Starts 1 10
-unfolding charOf
-lf-char t = refl
+  low-char : (t : List ℕ) → charOf (c ∷ t) ≡ Starts 1 c
+  unfolding charOf
+  low-char t = simp (lt-ltb c 0x80 l, charOf)
 
--- a line feed behind the text leaves the character at its front
-pub char-lf : (b : ℕ) (s t : List ℕ) → charOf ((b ∷ s) ++ 10 ∷ t) ≡ charOf (b ∷ s)
-unfolding charOf
-char-lf b [] t = go (ltb b 0x80) refl
-  where
-    go : (x : Bool) → ltb b 0x80 ≡ x → charOf (b ∷ 10 ∷ t) ≡ charOf (b ∷ [])
-    go true q = simp (q, charOf)
-    go false q = simp (q, charOf, lf-no-second b, pairOf)
-char-lf b (c ∷ s) t = refl
+  -- behind a text it leaves the character at its front
+  pub char-low : (b : ℕ) (s t : List ℕ) → charOf ((b ∷ s) ++ c ∷ t) ≡ charOf (b ∷ s)
+  unfolding charOf
+  char-low b [] t = go (ltb b 0x80) refl
+    where
+      go : (x : Bool) → ltb b 0x80 ≡ x → charOf (b ∷ c ∷ t) ≡ charOf (b ∷ [])
+      go true q = simp (q, charOf)
+      go false q = simp (q, charOf, low-no-second b, pairOf)
+  char-low b (d ∷ s) t = refl
 
 module _ (f : ℕ → Bool) where
   -- what is left of a character is passed
@@ -234,53 +236,54 @@ module _ (f : ℕ → Bool) where
   pub run-from : (n : ℕ) (s : List ℕ) → run f 0 n s ≡ n + run f 0 0 s
   run-from n s = ap (λ (i : ℕ). run f 0 i s) (sym (add-zero n)) ∙ shift n 0 0 s
 
-  -- A line feed behind a text: a run that ends before the end of the text ends there still, and any other goes on at the line
-  -- feed. x is the run of the text, y that of the text with the line feed and t.
-  abbrev SeamOf : ℕ → ℕ → ℕ → List ℕ → List ℕ → Type 0
-  SeamOf x y n s t = ((x < n + length s) × (y ≡ x)) ⊎ ((x ≡ n + length s) × (y ≡ run f 0 (n + length s) (10 ∷ t)))
+  -- A byte below 80 behind a text: a run that ends before the end of the text ends there still, and any other goes on at that byte. x is
+  -- the run of the text, y that of the text with the byte and t.
+  module _ (c : ℕ) (l : c < 0x80) where
+    abbrev SeamOf : ℕ → ℕ → ℕ → List ℕ → List ℕ → Type 0
+    SeamOf x y n s t = ((x < n + length s) × (y ≡ x)) ⊎ ((x ≡ n + length s) × (y ≡ run f 0 (n + length s) (c ∷ t)))
 
-  carry : (x y n b : ℕ) (s t : List ℕ) → SeamOf x y (n + 1) s t → SeamOf x y n (b ∷ s) t
-  carry x y n b s t w =
-      let e : n + 1 + length s ≡ n + suc (length s) = omega arith in
-      ⊎-elim (λ l. inl (omega arith, l .1)) (λ l. inr (omega arith, l .1 ∙ ap (λ (m : ℕ). run f 0 m (10 ∷ t)) e)) w
+    carry : (x y n b : ℕ) (s t : List ℕ) → SeamOf x y (n + 1) s t → SeamOf x y n (b ∷ s) t
+    carry x y n b s t w =
+        let e : n + 1 + length s ≡ n + suc (length s) = omega arith in
+        ⊎-elim (λ k. inl (omega arith, k .1)) (λ k. inr (omega arith, k .1 ∙ ap (λ (m : ℕ). run f 0 m (c ∷ t)) e)) w
 
-  pub seam : (k n : ℕ) (s t : List ℕ) → k ≤ length s → SeamOf (run f k n s) (run f k n (s ++ 10 ∷ t)) n s t
-  unfolding run
-  seam zero n [] t h =
-      let e : n ≡ n + 0 = omega arith in
-      inr (e, ap (λ (m : ℕ). run f 0 m (10 ∷ t)) e)
-  seam (suc k) n [] t h = absurd (omega arith)
-  seam (suc k) n (b ∷ s) t h = carry _ _ n b s t (seam k (n + 1) s t (omega arith))
-  seam zero n (b ∷ s) t h = go (λ k l. seam k (n + 1) s t l) (charOf (b ∷ s)) refl
-    where
-      stays : run f 0 n (b ∷ s) ≡ n → run f 0 n ((b ∷ s) ++ 10 ∷ t) ≡ n → SeamOf (run f 0 n (b ∷ s)) (run f 0 n ((b ∷ s) ++ 10 ∷ t)) n (b ∷ s) t
-      stays e d = inl (omega (arith, e), d ∙ sym e)
+    pub seam : (k n : ℕ) (s t : List ℕ) → k ≤ length s → SeamOf (run f k n s) (run f k n (s ++ c ∷ t)) n s t
+    unfolding run
+    seam zero n [] t h =
+        let e : n ≡ n + 0 = omega arith in
+        inr (e, ap (λ (m : ℕ). run f 0 m (c ∷ t)) e)
+    seam (suc k) n [] t h = absurd (omega arith)
+    seam (suc k) n (b ∷ s) t h = carry _ _ n b s t (seam k (n + 1) s t (omega arith))
+    seam zero n (b ∷ s) t h = go (λ k i. seam k (n + 1) s t i) (charOf (b ∷ s)) refl
+      where
+        stays : run f 0 n (b ∷ s) ≡ n → run f 0 n ((b ∷ s) ++ c ∷ t) ≡ n → SeamOf (run f 0 n (b ∷ s)) (run f 0 n ((b ∷ s) ++ c ∷ t)) n (b ∷ s) t
+        stays e d = inl (omega (arith, e), d ∙ sym e)
 
-      Rest : Type 0
-      Rest = (k : ℕ) → k ≤ length s → SeamOf (run f k (n + 1) s) (run f k (n + 1) (s ++ 10 ∷ t)) (n + 1) s t
+        Rest : Type 0
+        Rest = (k : ℕ) → k ≤ length s → SeamOf (run f k (n + 1) s) (run f k (n + 1) (s ++ c ∷ t)) (n + 1) s t
 
-      taken : Rest → (len p : ℕ) → charOf (b ∷ s) ≡ Starts len p → (u : Bool) → f p ≡ u → SeamOf (run f 0 n (b ∷ s)) (run f 0 n ((b ∷ s) ++ 10 ∷ t)) n (b ∷ s) t
-      taken rest len p e false u = stays (run-ended n (b ∷ s) len p e u) (run-ended n ((b ∷ s) ++ 10 ∷ t) len p (char-lf b s t ∙ e) u)
-      taken rest len p e true u =
-          let w = char-within (b ∷ s) len p e in
-          rw (run-cons n b s len p e u, run-cons n b (s ++ 10 ∷ t) len p (char-lf b s t ∙ e) u)
-          (carry _ _ n b s t (rest (len - 1) (omega arith)))
+        taken : Rest → (len p : ℕ) → charOf (b ∷ s) ≡ Starts len p → (u : Bool) → f p ≡ u → SeamOf (run f 0 n (b ∷ s)) (run f 0 n ((b ∷ s) ++ c ∷ t)) n (b ∷ s) t
+        taken rest len p e false u = stays (run-ended n (b ∷ s) len p e u) (run-ended n ((b ∷ s) ++ c ∷ t) len p (char-low c l b s t ∙ e) u)
+        taken rest len p e true u =
+            let w = char-within (b ∷ s) len p e in
+            rw (run-cons n b s len p e u, run-cons n b (s ++ c ∷ t) len p (char-low c l b s t ∙ e) u)
+            (carry _ _ n b s t (rest (len - 1) (omega arith)))
 
-      go : Rest → (x : Character) → charOf (b ∷ s) ≡ x → SeamOf (run f 0 n (b ∷ s)) (run f 0 n ((b ∷ s) ++ 10 ∷ t)) n (b ∷ s) t
-      go rest Nothing e = stays (run-none n (b ∷ s) e) (run-none n ((b ∷ s) ++ 10 ∷ t) (char-lf b s t ∙ e))
-      go rest (Starts len p) e = taken rest len p e (f p) refl
+        go : Rest → (x : Character) → charOf (b ∷ s) ≡ x → SeamOf (run f 0 n (b ∷ s)) (run f 0 n ((b ∷ s) ++ c ∷ t)) n (b ∷ s) t
+        go rest Nothing e = stays (run-none n (b ∷ s) e) (run-none n ((b ∷ s) ++ c ∷ t) (char-low c l b s t ∙ e))
+        go rest (Starts len p) e = taken rest len p e (f p) refl
+
+    -- a test that the byte does not pass: the run stays as it is
+    pub run-low : f c ≡ false → (s t : List ℕ) → run f 0 0 (s ++ c ∷ t) ≡ run f 0 0 s
+    run-low u s t =
+        ⊎-elim
+        (λ w. w .1)
+        (λ w. w .1 ∙ run-ended (0 + length s) (c ∷ t) 1 c (low-char c l t) u ∙ sym (w .0))
+        (seam 0 0 s t (omega arith))
 
   -- a run is within what there is
   pub run-within : (s : List ℕ) → run f 0 0 s ≤ length s
-  run-within s = ⊎-elim (λ w. omega arith) (λ w. omega arith) (seam 0 0 s [] (omega arith))
-
-  -- a test that the line feed does not pass: the run stays as it is
-  pub run-lf : f 10 ≡ false → (s t : List ℕ) → run f 0 0 (s ++ 10 ∷ t) ≡ run f 0 0 s
-  run-lf u s t =
-      ⊎-elim
-      (λ w. w .1)
-      (λ w. w .1 ∙ run-ended (0 + length s) (10 ∷ t) 1 10 (lf-char t) u ∙ sym (w .0))
-      (seam 0 0 s t (omega arith))
+  run-within s = ⊎-elim (λ w. omega arith) (λ w. omega arith) (seam 10 (omega arith) 0 0 s [] (omega arith))
 
 -- a character at a position is within what there is
 pub char-at-within : (s : List ℕ) (i n p : ℕ) → i ≤ length s → charOf (drop i s) ≡ Starts n p → (0 < n) × (i + n ≤ length s)
@@ -370,7 +373,7 @@ earlier Nowhere o = o
 
 -- a document, a line feed and a tail leave the domain where the document does, else where the tail does
 pub outside-lf : (s t : List ℕ) → outsideOf (s ++ 10 ∷ t) ≡ earlier (outsideOf s) (later (length s + 1) (outsideOf t))
-outside-lf s t = ⊎-elim (λ w. before (w .0) (w .1)) (λ w. behind (w .0) (w .1)) (seam any 0 0 s t (omega arith))
+outside-lf s t = ⊎-elim (λ w. before (w .0) (w .1)) (λ w. behind (w .0) (w .1)) (seam any 10 (omega arith) 0 0 s t (omega arith))
   where
     before : run any 0 0 s < 0 + length s → run any 0 0 (s ++ 10 ∷ t) ≡ run any 0 0 s → outsideOf (s ++ 10 ∷ t) ≡ earlier (outsideOf s) (later (length s + 1) (outsideOf t))
     before l e =
@@ -380,7 +383,7 @@ outside-lf s t = ⊎-elim (λ w. before (w .0) (w .1)) (λ w. behind (w .0) (w .
     behind : run any 0 0 s ≡ 0 + length s → run any 0 0 (s ++ 10 ∷ t) ≡ run any 0 (0 + length s) (10 ∷ t) → outsideOf (s ++ 10 ∷ t) ≡ earlier (outsideOf s) (later (length s + 1) (outsideOf t))
     behind l e =
         let r : run any 0 0 (s ++ 10 ∷ t) ≡ 0 + length s + 1 + run any 0 0 t =
-        e ∙ run-taken any (0 + length s) (10 ∷ t) 1 10 (lf-char t) refl ∙ run-from any (0 + length s + 1) t in
+        e ∙ run-taken any (0 + length s) (10 ∷ t) 1 10 (low-char 10 (omega arith) t) refl ∙ run-from any (0 + length s + 1) t in
         simp (outside-no s (run any 0 0 s) refl (omega arith))
         (⊎-elim
         (λ (h : run any 0 0 t < length t).

@@ -64,25 +64,28 @@ starts-append (c ∷ t) u [] = refl
 starts-append (c ∷ t) u (b ∷ s) =
     by-test₂ (λ x y. x ≡ (y && startsWith u (drop (length t) s))) (eqb b c) _ _ _ _ (λ e. starts-append t u s) (λ e. refl)
 
--- LF is no stop byte of a list without LF
-stops : (c : ℕ) → c ≡ 10 → isStop 10 10 c ≡ false → ⊥
+-- a byte is no stop byte of a list without it
+stops : (a c : ℕ) → c ≡ a → isStop a a c ≡ false → ⊥
 unfolding isStop
-stops c e f = false≢true (sym f ∙ simp (eq-eqb c 10 e))
+stops a c e f = false≢true (sym f ∙ simp (eq-eqb c a e))
 
--- LF behind the text
-pub starts-lf : (p s t : List ℕ) → free 10 10 p ≡ true → startsWith p (s ++ 10 ∷ t) ≡ startsWith p s
+-- a byte behind the text with which it does not begin, as LF
+pub starts-byte : (a : ℕ) (p s t : List ℕ) → free a a p ≡ true → startsWith p (s ++ a ∷ t) ≡ startsWith p s
 unfolding startsWith isStop
-starts-lf [] s t f = refl
-starts-lf (c ∷ p) [] t f = go (eqb 10 c) refl
+starts-byte a [] s t f = refl
+starts-byte a (c ∷ p) [] t f = go (eqb a c) refl
   where
-    lf : isStop 10 10 c ≡ false
-    lf = free-next 10 10 c p f .0
+    other : isStop a a c ≡ false
+    other = free-next a a c p f .0
 
-    go : (x : Bool) → eqb 10 c ≡ x → startsWith (c ∷ p) (10 ∷ t) ≡ false
-    go true e = absurd (stops c (sym (eqb-true 10 c e)) lf)
+    go : (x : Bool) → eqb a c ≡ x → startsWith (c ∷ p) (a ∷ t) ≡ false
+    go true e = absurd (stops a c (sym (eqb-true a c e)) other)
     go false e = simp (e, startsWith)
-starts-lf (c ∷ p) (b ∷ s) t f =
-    by-test₂ (λ x y. x ≡ y) (eqb b c) _ _ _ _ (λ e. starts-lf p s t (free-next 10 10 c p f .1)) (λ e. refl)
+starts-byte a (c ∷ p) (b ∷ s) t f =
+    by-test₂ (λ x y. x ≡ y) (eqb b c) _ _ _ _ (λ e. starts-byte a p s t (free-next a a c p f .1)) (λ e. refl)
+
+pub starts-lf : (p s t : List ℕ) → free 10 10 p ≡ true → startsWith p (s ++ 10 ∷ t) ≡ startsWith p s
+starts-lf p s t f = starts-byte 10 p s t f
 
 -- a text begins with a space or a tab, if what it begins with does
 pub starts-space : (p s : List ℕ) → startsSpace p ≡ true → startsWith p s ≡ true → startsSpace s ≡ true

@@ -14,7 +14,7 @@ use lib.ListN.{length, getD, drop}
 use borrow.Author.Tests.{le-leb, lt-leb, ne-eqb}
 use Rattle.rst_bytes.specs.Word.{inRanges, apart, wordRanges, isAsciiWord, isWord, wordOf}
 use Rattle.rst_bytes.specs.Domain.{run}
-use Rattle.rst_bytes.proofs.DomainLaws.{at-one, at-taken, run-ended, run-within, run-lf}
+use Rattle.rst_bytes.proofs.DomainLaws.{at-one, at-taken, run-ended, run-within, run-low}
 
 and-left : (a b : Bool) → T (a && b) → T a
 and-left true b t = tt
@@ -114,11 +114,11 @@ pub word-within : (s : List ℕ) → wordOf s ≤ length s
 unfolding wordOf
 word-within s = run-within isWord s
 
-lf-no-word : isWord 10 ≡ false
-unfolding isWord isAsciiWord inRanges wordRanges
-lf-no-word = refl
-
--- a line feed ends a word
-pub word-lf : (s t : List ℕ) → wordOf (s ++ 10 ∷ t) ≡ wordOf s
+-- a byte below 80 that is no word character ends a word
+pub word-ended : (c : ℕ) → c < 0x80 → isAsciiWord c ≡ false → (s t : List ℕ) → wordOf (s ++ c ∷ t) ≡ wordOf s
 unfolding wordOf
-word-lf s t = run-lf isWord lf-no-word s t
+word-ended c l e s t = run-low isWord c l (word-low c l ∙ e) s t
+
+pub word-lf : (s t : List ℕ) → wordOf (s ++ 10 ∷ t) ≡ wordOf s
+unfolding isAsciiWord
+word-lf s t = word-ended 10 (omega arith) refl s t

@@ -34,8 +34,9 @@
 --                      tabs at the front begin with and lack; TagLaws starts-append, starts-space
 --   lists and tests    Lists part-from, drop-end, drop-next, drop-two, drop-last: parts of a list; TestLaws by-test, by-test₂, lt-or-le: what
 --                      a test picks
---   appending          LineLaws body-drop; on s ++ 10 ∷ t: DomainLaws char-lf, outside-lf, run-lf; WordLaws word-lf; EscapedLaws refused-lf,
---                      taken-lf, open-lf; LineLaws newline-lf, line-ending-lf, not-line-ending-lf, space0-lf, space1-lf; TagLaws starts-lf
+--   appending          LineLaws body-drop; on s ++ 10 ∷ t: DomainLaws outside-lf; WordLaws word-lf; EscapedLaws refused-lf, taken-lf,
+--                      open-lf; LineLaws newline-lf, line-ending-lf, not-line-ending-lf, space0-lf, space1-lf; TagLaws starts-lf; with
+--                      another byte than LF between: DomainLaws char-low, run-low; WordLaws word-ended; TagLaws starts-byte
 pub mod Tests
 pub mod Domain
 pub mod Word

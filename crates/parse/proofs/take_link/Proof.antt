@@ -16,11 +16,11 @@ use Rattle.parse.proofs.take_link.Statement.{statement}
 use Rattle.parse.proofs.take_link.Tie as tie
 
 abbrev Inv-loop : tie.InvT-loop
-Inv-loop s scratch₀ i₀ input-start₀ known₀ looked₀ scratch i input-start known looked =
+Inv-loop s scratch₀ i₀ input-start₀ known₀ lines₀ words₀ scratch i input-start known lines words =
     (i ≤ length s) × (length scratch ≡ length scratch₀) × (scanOf s ≡ rounds rst 0 input-start i (drop i s)) × Holds i known s
 
 abbrev μ-loop : tie.MeasureT-loop
-μ-loop s scratch₀ i₀ input-start₀ known₀ looked₀ scratch i input-start known looked = length s - i
+μ-loop s scratch₀ i₀ input-start₀ known₀ lines₀ words₀ scratch i input-start known lines words = length s - i
 
 returns : tie.Need-returns Inv-loop μ-loop
 returns c =
@@ -43,7 +43,7 @@ loop-again : tie.Need-loop-again Inv-loop μ-loop
 loop-again c =
     let l = c .before .before .before .before .loop in
     let a = c .before .before .calm .ensures in
-    (a .1, l .inv .1, l .inv .2 ∙ a .2 (c .if2 .taken) (l .input-start), holds-later _ (l .i) _ (l .known) (a .0) (l .inv .3))
+    (a .1, l .inv .1, l .inv .2 ∙ a .2 (c .if2 .taken), holds-later _ (l .i) _ (l .known) (a .0) (l .inv .3))
 
 round-requires : tie.Need-round-requires Inv-loop μ-loop
 round-requires c κs =

@@ -1,17 +1,18 @@
--- `calm::stop_from` meets its contract. The loop's invariant: no `_` and no backtick stands from i up to j. The measure is what is left.
+-- `calm::stop_from` meets its contract. The loop's invariant: no `_`, no backtick and no LF stands from i up to j. The measure is what is left.
 -- Assumes nothing.
 use Prim.Native.Nat.{_-_, _≤_}
 use mathlib.Core.Path.{sym, _∙_}
 use native.Mathlib.Omega.{arith}
 use lib.ListN.{length}
+use borrow.Author.Tests.{ne-eqb}
 use borrow.Author.Needs.{needs}
-use Rattle.parse.specs.Inner.{Calm}
-use Rattle.parse.proofs.CalmLaws.{calm-none, calm-next}
+use Rattle.parse.specs.Inner.{Calm, Lineless}
+use Rattle.parse.proofs.CalmLaws.{calm-none, calm-next, lineless-none, lineless-next}
 use Rattle.parse.proofs.calm.stop_from.Statement.{statement}
 use Rattle.parse.proofs.calm.stop_from.Tie as tie
 
 abbrev Inv-loop : tie.InvT-loop
-Inv-loop s i j₀ j = (i ≤ j) × (j ≤ length s) × Calm i j s
+Inv-loop s i j₀ j = (i ≤ j) × (j ≤ length s) × Calm i j s × Lineless i j s
 
 abbrev μ-loop : tie.MeasureT-loop
 μ-loop s i j₀ j = length s - j
@@ -19,7 +20,7 @@ abbrev μ-loop : tie.MeasureT-loop
 loop-holds : tie.Need-loop-holds Inv-loop μ-loop
 loop-holds c =
     let w = c .before .args in
-    (omega arith, omega arith, calm-none (w .i) (w .s .now))
+    (omega arith, omega arith, calm-none (w .i) (w .s .now), lineless-none (w .i) (w .s .now))
 
 shared-slice-read-b : tie.Need-shared-slice-read-b Inv-loop μ-loop
 shared-slice-read-b c = search needs
@@ -46,6 +47,7 @@ loop-again c =
       omega (arith, l .inv .0),
       omega (arith, l .inv .0),
       calm-next (w .i) (l .j) (w .s .now) (l .inv .2) (sym (c .before .before .is-mark .ensures) ∙ c .before .if1 .left),
+      lineless-next (w .i) (l .j) (w .s .now) (l .inv .3) (ne-eqb _ 10 (c .if2 .left)),
     )
 
 returns-3 : tie.Need-returns-3 Inv-loop μ-loop
