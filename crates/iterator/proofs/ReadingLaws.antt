@@ -1,5 +1,6 @@
 -- Reading goes on behind each link: the scanner is lent the bytes that are not taken, which are enough, so it finds what it finds in the
--- rest of the document; what is added then is what collecting adds; and where nothing is found, all is collected.
+-- rest of the document; what is added then is what collecting adds, and what it knows of backticks is true of what is read next; and where
+-- nothing is found, all is collected.
 -- Assumes nothing.
 use Prim.Native.Nat.{ℕ, _+_, _-_, _<_, _≤_}
 use native.Mathlib.Omega.{arith}
@@ -12,11 +13,13 @@ use Rattle.rst_bytes.proofs.Lists.{part-from}
 use Rattle.restructured_text.proofs.PartLaws.{put-before}
 use Rattle.parse.specs.declared.Link.{Link}
 use Rattle.parse.specs.declared.Link.the-variants.{Text2Dest, TextLabel2Dest, Text2Label, Label2Dest, Label2Label}
+use Rattle.parse.specs.declared.Known.{Known}
 use Rattle.parse.specs.declared.Scan.{Scan}
 use Rattle.parse.specs.declared.Scan.the-variants.{Found, NotFound, NoRoom}
 use Rattle.parse.specs.Link.{Scanned, found, nothing, no-room, linkOf, scannedOf, Ends, lent}
 use Rattle.parse.specs.Forms.{rst}
 use Rattle.parse.specs.Scan.{scanOf}
+use Rattle.parse.specs.Inner.{linkEnd, Holds, TrueBehind}
 use Rattle.parse.specs.Links.{Placed, linksFrom, linksBy, linksOf}
 use Rattle.parse.proofs.ScanLaws.{rst-consuming, scan-of-within, scan-of-room}
 use Rattle.parse.proofs.LinksLaws.{links-equation}
@@ -42,6 +45,14 @@ link-found (TextLabel2Dest a b m n) w = tt
 link-found (Text2Label a b m n) w = tt
 link-found (Label2Dest a b m n) w = tt
 link-found (Label2Label a b m n) w = tt
+
+-- the bytes that a scan has read end where the link does
+link-bytes : (x : Link) (w : List ℕ) → scannedBytes (linkOf x w) ≡ linkEnd x
+link-bytes (Text2Dest a b m n) w = refl
+link-bytes (TextLabel2Dest a b m n) w = refl
+link-bytes (Text2Label a b m n) w = refl
+link-bytes (Label2Dest a b m n) w = refl
+link-bytes (Label2Label a b m n) w = refl
 
 -- what is collected goes on behind a link, or is refused
 abbrev goesOn : ℕ → List ℕ → List Placed → Collected → Collected
@@ -125,6 +136,17 @@ module _ (s t w : List ℕ) (c : MarkupLinkCollection) (k : Held 0 0 t c) (h : c
 
       pub scannable : length w′ ≡ length w → Ends r → Scannable t w′ x c
       scannable g v = ((q .0, omega (arith, g, q .1)), (k, (subst Ends f v, omega (arith, inside .1))))
+
+      -- what is known of backticks behind it is true of what is read next
+      pub next-known :
+          (known : Known) → TrueBehind (take (length s - c .at) (drop (c .at) s)) known r
+          → (n : ℕ) → n ≡ c .at + scannedBytes (linkOf x (drop (c .fill) w′)) → Holds 0 known (drop n s)
+      next-known known b n g =
+          subst (Holds 0 known)
+          (ap (drop (linkEnd x)) (part-from s (c .at))
+          ∙ drop-drop (linkEnd x) (c .at) s
+          ∙ ap (λ (z : ℕ). drop z s) (ap (λ (z : ℕ). c .at + z) (sym (link-bytes x (drop (c .fill) w′))) ∙ sym g))
+          (subst (TrueBehind (take (length s - c .at) (drop (c .at) s)) known) f b)
 
       -- what all links of the rest add, by what this one adds
       goes :

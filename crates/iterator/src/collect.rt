@@ -12,9 +12,10 @@ use crate::rows::RENDERED;
 use crate::rows::ROWS_MAX;
 use crate::rows::put_link;
 use crate::rows::put_pair;
+use parse::Known;
 use parse::Link;
 use parse::Scan;
-use parse::take_link;
+use parse::next_link;
 use restructured_text::Span;
 ghost use mathlib.Core.Path.{_≡_};
 ghost use Prim.Native.Nat.{_+_, _*_, _≤_, _<_};
@@ -387,20 +388,24 @@ fn new() -> MarkupLinkCollection
     }
 }
 
-// All links of the document, or the number of a refusal.
+// All links of the document, or the number of a refusal. What a scan learnt of backticks is handed to the next.
 pub fn collect(document: &[u8], render: u32, numbers: &mut [u32], bytes: &mut [u8]) -> Step
     requires { ⌜ (length (now document) ≤ 16384) × Roomy (now numbers) (now bytes) ⌝ }
     ensures step { λ r. ⌜ stepOf (now (document .entry)) (now (numbers .exit)) (now (bytes .exit)) r ≡ collectAll render (now (document .entry)) (linksOf (now (document .entry))) ⌝ }
     ensures held { λ r. ⌜ CollectedHeld (length (now (document .entry))) (now (numbers .exit)) r ⌝ }
 {
     let mut c = new();
+    let mut known = Known { shut: 0, barren: 0 };
     while c.at < document.len() {
         let at = c.at;
         let fill = c.fill;
-        match take_link(&document[at..], &mut bytes[fill..]) {
+        let scanned = next_link(&document[at..], &mut bytes[fill..], known);
+        let scan = scanned.scan;
+        match scan {
             Scan::Found(x) => match add(render, x, c, numbers, bytes) {
                 Step::Next(next) => {
                     c = next;
+                    known = scanned.known;
                 }
                 Step::Refused(number) => {
                     return Step::Refused(number);

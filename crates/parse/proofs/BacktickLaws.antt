@@ -22,7 +22,7 @@ use Rattle.rst_bytes.proofs.EscapedLaws.{refused-taken, taken-is, taken-from, a
 use Rattle.restructured_text.specs.Delimited.{closing, backtickedOf}
 use Rattle.restructured_text.proofs.DelimitedLaws.{delimited-is, backticked-other}
 use Rattle.restructured_text.proofs.InlineLaws.{text2dest-refused, text-label2dest-refused, text2label-refused}
-use Rattle.parse.specs.declared.rounds.Known.{Known}
+use Rattle.parse.specs.declared.Known.{Known}
 use Rattle.parse.specs.Link.{Scanned, nothing, behind, orElse}
 use Rattle.parse.specs.Forms.{anonymous, named, reference, tried, rst}
 use Rattle.parse.specs.Scan.{isOpening, openingOf, referenceAt, followed, inlineAt}
@@ -46,6 +46,11 @@ module _ (Claim : List ℕ → Type 0) where
       let g : getD t (i - k) 0 ≡ getD s i 0 = ap (λ (x : List ℕ). getD x (i - k) 0) e ∙ getD-drop k s (i - k) 0 ∙ ap (λ (j : ℕ). getD s j 0) z in
       let d : drop (i - k) t ≡ drop i s = ap (drop (i - k)) e ∙ drop-drop (i - k) k s ∙ ap (λ (j : ℕ). drop j s) z in
       subst Claim d (f (i - k) (omega arith) (omega arith) (g ∙ b))
+
+  -- what is known of s from m on is known of what stands from a later place k on
+  pub ticks-front : (s : List ℕ) (m k n : ℕ) → m ≤ k → Ticks Claim m n s → Ticks Claim 0 (n - k) (drop k s)
+  ticks-front s m k n h f i l g b =
+      subst⁻¹ Claim (drop-drop i k s) (f (k + i) (omega arith) (omega arith) (sym (getD-drop k s i 0) ∙ b))
 
 -- all that is known stays known further on
 pub holds-later : (s : List ℕ) (m k : ℕ) (known : Known) → m ≤ k → Holds m known s → Holds k known s

@@ -7,6 +7,7 @@ pub mod BacktickLaws
 pub mod BarrenLaws
 pub mod RoundLaws
 pub mod CalmLaws
+pub mod OnwardLaws
 pub mod SingleLaws
 pub mod SizeLaws
 mod CasesHold

@@ -46,7 +46,7 @@ use Rattle.parse.specs.Scan.{
   roundOf,
   rounds,
 }
-use Rattle.parse.specs.declared.rounds.Known.{Known}
+use Rattle.parse.specs.declared.Known.{Known}
 use Rattle.parse.specs.declared.rounds.Step.{Step}
 use Rattle.parse.specs.declared.rounds.Step.the-variants.{Stops, Passes}
 use Rattle.parse.specs.Inner.{stepOf}

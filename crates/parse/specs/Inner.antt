@@ -1,5 +1,5 @@
--- What the contracts of private functions speak of: a round's answer with the place that comes next; what is known of backticks; text
--- without links; how two strings are handed over.
+-- What the contracts of private functions speak of: a round's answer with the place that comes next; what is known of backticks, which
+-- `next_link` hands on too; text without links; how two strings are handed over.
 -- Assumes nothing.
 use Prim.Native.Nat.{ℕ, _+_, _-_, _<_, _≤_}
 use mathlib.Core.Path.{_≡_}
@@ -10,7 +10,10 @@ use lib.ListN.{length, drop, getD}
 use Rattle.rst_bytes.specs.Escaped.{isStop, taking}
 use Rattle.rst_bytes.specs.declared.Part.the-variants.{Taken, Refused}
 use Rattle.restructured_text.specs.Delimited.{backtickedOf}
-use Rattle.parse.specs.declared.rounds.Known.{Known}
+use Rattle.parse.specs.declared.Known.{Known}
+use Rattle.parse.specs.declared.Next.{Next}
+use Rattle.parse.specs.declared.Scan.{Scan}
+use Rattle.parse.specs.declared.Scan.the-variants.{Found, NotFound, NoRoom}
 use Rattle.parse.specs.declared.rounds.Step.{Step}
 use Rattle.parse.specs.declared.rounds.Step.the-variants.{Stops, Passes}
 use Rattle.parse.specs.declared.Link.{Link}
@@ -47,6 +50,33 @@ Opened s = (n : ℕ) × (taking 0x60 0x3C false 0 s ≡ Taken n) × (n < length 
 -- what is known of backticks from place m on is true
 abbrev pub Holds : ℕ → Known → List ℕ → Type 0
 Holds m known s = Shut m (known .shut) s × Barren m (known .barren) s
+
+-- the same, with places counted from place n on
+abbrev pub knownFrom : ℕ → Known → Known
+knownFrom n known = record { shut = known .shut - n; barren = known .barren - n }
+
+-- the place behind a link
+abbrev pub linkEnd : Link → ℕ
+linkEnd (Text2Dest a b skipped consumed) = skipped + consumed
+linkEnd (TextLabel2Dest a b skipped consumed) = skipped + consumed
+linkEnd (Text2Label a b skipped consumed) = skipped + consumed
+linkEnd (Label2Dest a b skipped consumed) = skipped + consumed
+linkEnd (Label2Label a b skipped consumed) = skipped + consumed
+
+-- where a link of s was found, what is known is true from behind it on
+abbrev pub HoldsBehind : List ℕ → Known → Scan → Type 0
+HoldsBehind s known (Found x) = (linkEnd x ≤ length s) × Holds (linkEnd x) known s
+HoldsBehind s known NotFound = Unit {0}
+HoldsBehind s known NoRoom = Unit {0}
+
+-- and is true of the text behind it
+abbrev pub TrueBehind : List ℕ → Known → Scan → Type 0
+TrueBehind s known (Found x) = Holds 0 known (drop (linkEnd x) s)
+TrueBehind s known NotFound = Unit {0}
+TrueBehind s known NoRoom = Unit {0}
+
+abbrev pub NextHolds : List ℕ → Next → Type 0
+NextHolds s r = TrueBehind s (r .known) (r .scan)
 
 -- what a step says, with the scratch as it was left: places count from the front of the text
 abbrev pub stepOf : Step → List ℕ → Round

@@ -1,13 +1,14 @@
 -- What the scanner promises: document 01, "`parse.rs`: `take_link`", and its table of refusals for the single-link call.
 --
 -- Each definition, and the public function whose contract is an equation with it, on every input, place, scratch and buffer:
---   Scan      scanOf      take_link      the first link of a text: rounds (a) to (f)
---   Single    singleOf    single_link    number and values, and both buffers
+--   Scan      scanOf      take_link, next_link    the first link of a text: rounds (a) to (f)
+--   Single    singleOf    single_link             number and values, and both buffers
 -- Link says what an answer means with the scratch as the scanner left it, that a scratch as long as the text is enough and is asked
 -- for, and that the strings end within as many bytes of it as are consumed (Ends, part of the contract). Forms lists the parsers that
 -- are tried, and where. Single gives 01's number and values for each case of the single-link answer (outcomeOf); its strings stand at
 -- the front of the buffers (Fronts, part of the contract). Links says what all links of a text are, one after the other. Inner is what
--- the contracts of private functions speak of. Cases gathers worked cases, which proofs/CasesHold.antt computes.
+-- the contracts of private functions speak of, and what is known of backticks: `next_link` is handed such knowledge, asks that it is true
+-- (Holds), and hands back what is true behind the link (NextHolds). Cases gathers worked cases, which proofs/CasesHold.antt computes.
 --
 -- Laws, proved in the file of proofs/ that is named, for the layers above; Laws defines what they speak of. Those marked * hold for any
 -- forms that consume at least one byte and no more than there are (`Forms.Consuming`), and reStructuredText's do (ScanLaws
@@ -23,6 +24,8 @@
 --                      answer are at most that of the longest document
 --   calm               CalmLaws calm-skips: the rounds from a place on are those from a later one on, where no _ and no backtick stands
 --                      between and (f) ends there, before LF or the end; gap-skips: or before a blank, where no line starts
+--   handing on         OnwardLaws found-holds, behind-holds: what is known of backticks where a link is found is true of the text behind
+--                      it, which the next scan reads; holds-nothing: nothing known is true of every text
 --   in order and apart LinksLaws links-apart *, links-of-apart: each link starts at or after the end of the one before
 --   appending          on s ++ 10 ∷ t, for `Tail t` and `Body s`: AppendingLaws scan-lf: a link found in s is found alike; scan-none-lf:
 --                      where none is, whatever is found starts past the LF; links-lf: the links are those of s and then some that start

@@ -7,12 +7,13 @@ mod barren;
 mod buffers;
 mod calm;
 mod forms;
+mod onward;
 mod rounds;
 
 use crate::buffers::hand_over;
 use crate::buffers::is_place;
 use crate::calm::calm;
-use crate::rounds::Known;
+use crate::onward::next_of;
 use crate::rounds::Step;
 use crate::rounds::round;
 use restructured_text::Span;
@@ -22,6 +23,7 @@ ghost use mathlib.Core.Path.{_≡_};
 ghost use Rattle.parse.specs.Link.{scannedOf, Ends, lent};
 ghost use Rattle.parse.specs.Scan.{scanOf};
 ghost use Rattle.parse.specs.Single.{outcomeOf, singleOf, Fronts};
+ghost use Rattle.parse.specs.Inner.{Holds, NextHolds};
 
 // A link: where its first string (text or name) and its second string (label, destination or alias target) stand, how many bytes
 // were skipped before it and how many it consumed.
@@ -45,6 +47,19 @@ pub enum Scan {
     NoRoom,
 }
 
+// What is known of backticks from a place on: before `shut` none begins a part that is closed, and before `barren` none begins an
+// embedded link.
+pub struct Known {
+    pub shut: usize,
+    pub barren: usize,
+}
+
+// A scan's answer, and what is known from behind the link that was found, if one was.
+pub struct Next {
+    pub scan: Scan,
+    pub known: Known,
+}
+
 // The single-link call's answer: a link whose strings stand at the front of the two buffers; or the refusal's number, with its
 // place or size in bytes.
 pub enum Single {
@@ -60,12 +75,25 @@ pub fn take_link(s: &[u8], scratch: &mut [u8]) -> Scan
     ensures scan { λ r. ⌜ scannedOf r (now (scratch .exit)) ≡ lent (now (s .entry)) (now (scratch .entry)) (scanOf (now (s .entry))) ⌝ }
     ensures ends { λ r. ⌜ Ends r ⌝ }
 {
+    let known = Known { shut: 0, barren: 0 };
+    let next = next_link(s, scratch, known);
+    next.scan
+}
+
+// The same where something is known of backticks; what is known behind the link is handed back. It is `iterator` that goes from link to
+// link so. This alone of the public functions asks something of its caller: that what it hands in is true, as what it was handed back is.
+pub fn next_link(s: &[u8], scratch: &mut [u8], known: Known) -> Next
+    requires known { ⌜ Holds 0 known (now s) ⌝ }
+    ensures scan { λ r. ⌜ scannedOf (r .scan) (now (scratch .exit)) ≡ lent (now (s .entry)) (now (scratch .entry)) (scanOf (now (s .entry))) ⌝ }
+    ensures ends { λ r. ⌜ Ends (r .scan) ⌝ }
+    ensures known { λ r. ⌜ NextHolds (now (s .entry)) r ⌝ }
+{
     if scratch.len() < s.len() {
-        return Scan::NoRoom;
+        return next_of(s, Scan::NoRoom, known);
     }
     let mut i = 0;
     let mut input_start = true;
-    let mut known = Known { shut: 0, barren: 0 };
+    let mut known = known;
     let mut lines = 0;
     let mut words = 0;
     while i < s.len() {
@@ -79,7 +107,7 @@ pub fn take_link(s: &[u8], scratch: &mut [u8]) -> Scan
         }
         match round(s, i, scratch, input_start, known) {
             Step::Stops(x) => {
-                return x;
+                return next_of(s, x, known);
             }
             Step::Passes(next, learnt) => {
                 i = next;
@@ -88,7 +116,7 @@ pub fn take_link(s: &[u8], scratch: &mut [u8]) -> Scan
             }
         }
     }
-    Scan::NotFound
+    next_of(s, Scan::NotFound, known)
 }
 
 // The first link of the document from a place on; its strings are written to the front of the two buffers, or all of this is

@@ -2,6 +2,7 @@
 //
 // A step takes the text and a place in it; one that tries parsers is also lent a scratch as long as the text. What an earlier round
 // learnt of backticks is handed on as two places, so that the text behind them is not read again and again.
+use crate::Known;
 use crate::Scan;
 use crate::backtick::unclosed;
 use crate::barren::barren;
@@ -33,13 +34,6 @@ ghost use Rattle.parse.specs.Scan.{
   later,
 };
 ghost use Rattle.parse.specs.Inner.{Shut, Barren, Holds, stepOf, StepEnds, StepHolds};
-
-// What is known of backticks from a place on: before `shut` none begins a part that is closed, and before `barren` none begins an
-// embedded link.
-pub struct Known {
-    pub shut: usize,
-    pub barren: usize,
-}
 
 // A round's answer: the scan's; or the place where the next round starts, and what is known from there on.
 pub enum Step {

@@ -1,116 +1,18 @@
--- `take_link` meets its contract. The loop's invariant: the scan from the front is that from i on, i bytes being skipped, and what is
--- known of backticks holds from i on. Calm text is passed; a round ends the scan, or passes some bytes: the measure is what is left.
+-- `take_link` meets its contract: it is that of `next_link`, and nothing is known yet.
 -- Assumes nothing.
-use Prim.Native.Nat.{_-_, _≤_}
-use mathlib.Core.Path.{_≡_, refl, sym, subst, _∙_}
-use native.Mathlib.Omega.{arith}
-use lib.ListN.{length, drop}
 use borrow.Author.Needs.{needs}
-use Rattle.parse.specs.Forms.{rst}
-use Rattle.parse.specs.Scan.{rounds, scanWith, scanOf}
-use Rattle.parse.specs.Inner.{NoPart, NoLink, Holds, StepEnds, StepHolds}
-use Rattle.parse.proofs.ScanLaws.{rounds-end}
-use Rattle.parse.proofs.BacktickLaws.{ticks-none, holds-later}
-use Rattle.parse.proofs.RoundLaws.{step-stops, step-passes, lent-short, lent-enough}
+use Rattle.parse.proofs.OnwardLaws.{holds-nothing}
 use Rattle.parse.proofs.take_link.Statement.{statement}
 use Rattle.parse.proofs.take_link.Tie as tie
 
-abbrev Inv-loop : tie.InvT-loop
-Inv-loop s scratch₀ i₀ input-start₀ known₀ lines₀ words₀ scratch i input-start known lines words =
-    (i ≤ length s) × (length scratch ≡ length scratch₀) × (scanOf s ≡ rounds rst 0 input-start i (drop i s)) × Holds i known s
+next-link-requires : tie.Need-next-link-requires
+next-link-requires c κs = holds-nothing (c .before .before .before .args .s .now) 0
 
-abbrev μ-loop : tie.MeasureT-loop
-μ-loop s scratch₀ i₀ input-start₀ known₀ lines₀ words₀ scratch i input-start known lines words = length s - i
-
-returns : tie.Need-returns Inv-loop μ-loop
-returns c =
-    let w = c .before .before .before .args in
-    (lent-short (w .s .now) (w .scratch .now) (scanOf (w .s .now)) (c .if1 .taken), tt)
-
-loop-holds : tie.Need-loop-holds Inv-loop μ-loop
-unfolding scanOf scanWith
-loop-holds c =
-    let s = c .before .before .before .args .s .now in
-    (omega arith, refl, refl, (ticks-none NoPart s 0 0 (omega arith), ticks-none NoLink s 0 0 (omega arith)))
-
-calm-requires : tie.Need-calm-requires Inv-loop μ-loop
-calm-requires c κs = search needs
-
-loop-less : tie.Need-loop-less Inv-loop μ-loop
-loop-less c = search needs
-
-loop-again : tie.Need-loop-again Inv-loop μ-loop
-loop-again c =
-    let l = c .before .before .before .before .loop in
-    let a = c .before .before .calm .ensures in
-    (a .1, l .inv .1, l .inv .2 ∙ a .2 (c .if2 .taken), holds-later _ (l .i) _ (l .known) (a .0) (l .inv .3))
-
-round-requires : tie.Need-round-requires Inv-loop μ-loop
-round-requires c κs =
-    let v = c .before .before .before .before .before .loop .inv in
-    ((v .0, omega (arith, v .1, c .before .before .before .before .before .before .if1 .left)), v .3)
-
-enum-known-x : tie.Need-enum-known-x Inv-loop μ-loop
-enum-known-x c = search needs
-
-same-length : tie.Need-same-length Inv-loop μ-loop
+same-length : tie.Need-same-length
 same-length c = search needs
 
-returns-2 : tie.Need-returns-2 Inv-loop μ-loop
-returns-2 c =
-    let w = c .before .before .before .before .before .before .before .before .before .before .before .before .before .before .before .args in
-    let l = c .before .before .before .before .before .before .before .before .before .before .before .loop in (
-      step-stops (l .input-start) (w .s .now) (l .i) (omega arith) (c .before .before .before .before .before .round .result) (c .before .before .before .before .before .round .last .1 .1 .0) (c .before .before .before .before .before .round .ensures .0) _ (c .before .x .given .1) ∙ sym (l .inv .2) ∙ lent-enough (w .s .now) (w .scratch .now) (scanOf (w .s .now)) (c .before .before .before .before .before .before .before .before .before .before .before .before .if1 .left),
-      subst StepEnds (c .before .x .given .1) (c .before .before .before .before .before .round .ensures .1 .0),
-    )
-
-enum-known-next : tie.Need-enum-known-next Inv-loop μ-loop
-enum-known-next c = search needs
-
-loop-less-2 : tie.Need-loop-less-2 Inv-loop μ-loop
-loop-less-2 c =
-    let w = c .before .before .before .before .before .before .before .before .before .before .before .before .before .before .before .args in
-    let l = c .before .before .before .before .before .before .before .before .before .before .before .loop in
-    let p = step-passes (l .input-start) (w .s .now) (l .i) (omega arith) (c .before .before .before .before .before .round .result) (c .before .before .before .before .before .round .last .1 .1 .0) (c .before .before .before .before .before .round .ensures .0) _ _ (c .before .next .given .1) in
-    omega (arith, p .1, p .2)
-
-loop-again-2 : tie.Need-loop-again-2 Inv-loop μ-loop
-loop-again-2 c =
-    let w = c .before .before .before .before .before .before .before .before .before .before .before .before .before .before .before .args in
-    let l = c .before .before .before .before .before .before .before .before .before .before .before .loop in
-    let p = step-passes (l .input-start) (w .s .now) (l .i) (omega arith) (c .before .before .before .before .before .round .result) (c .before .before .before .before .before .round .last .1 .1 .0) (c .before .before .before .before .before .round .ensures .0) _ _ (c .before .next .given .1) in (
-      p .2,
-      omega (arith, l .inv .1, c .before .before .before .before .scratch .given),
-      l .inv .2 ∙ p .0,
-      subst (StepHolds (w .s .now)) (c .before .next .given .1) (c .before .before .before .before .before .round .ensures .1 .1),
-    )
-
-same-length-2 : tie.Need-same-length-2 Inv-loop μ-loop
-same-length-2 c = search needs
-
-returns-3 : tie.Need-returns-3 Inv-loop μ-loop
-returns-3 c =
-    let w = c .before .before .before .before .before .args in
-    let l = c .before .loop in
-    (sym (l .inv .2 ∙ rounds-end rst (l .input-start) (w .s .now) (l .i) (omega arith)) ∙ lent-enough (w .s .now) (w .scratch .now) (scanOf (w .s .now)) (c .before .before .if1 .left), tt)
+returns : tie.Need-returns
+returns c = search needs
 
 pub take-link-spec : {M : Type 1} → statement M
-take-link-spec =
-    tie.close
-    (tie.spec
-    Inv-loop
-    μ-loop
-    returns
-    loop-holds
-    calm-requires
-    loop-less
-    loop-again
-    round-requires
-    enum-known-x
-    same-length
-    returns-2
-    enum-known-next
-    loop-less-2
-    loop-again-2
-    same-length-2
-    returns-3)
+take-link-spec = tie.close (tie.spec next-link-requires same-length returns)
