@@ -11,9 +11,10 @@ use Rattle.rst_bytes.proofs.Lists.{part-from}
 use Rattle.restructured_text.specs.declared.Span.{Span}
 use Rattle.restructured_text.specs.declared.Strings.{Strings}
 use Rattle.restructured_text.specs.declared.Strings.the-variants.{Found}
+use Rattle.restructured_text.specs.declared.target.Definition.{Definition}
 use Rattle.restructured_text.specs.Strings.{Link, link, none, part, stringsOf, lent}
 use Rattle.restructured_text.specs.Inline.{text2destOf, textLabel2destOf, text2labelOf}
-use Rattle.restructured_text.specs.Target.{label2destOf, label2labelOf}
+use Rattle.restructured_text.specs.Target.{label2destOf, label2labelOf, aliasIn, destinationIn}
 use Rattle.restructured_text.proofs.PartLaws.{part-front, put-before}
 use Rattle.restructured_text.proofs.StringsLaws.{lent-enough}
 use Rattle.restructured_text.proofs.TargetLaws.{label2dest-consumed}
@@ -24,6 +25,14 @@ use Rattle.parse.specs.Scan.{consumedOf, followed}
 -- What a parser found, z, by its answer x, which is y: the scratch d is long enough, and was left as d′.
 pub answered : (s d d′ : List ℕ) (z : Link) (x y : Strings) → length s ≤ length d → stringsOf x d′ ≡ lent s d z → x ≡ y → z ≡ stringsOf y d′
 answered s d d′ z x y h e f = lent-enough s d z h ∙ sym e ∙ ap (λ (w : Strings). stringsOf w d′) f
+
+-- The same of the reader of both blocks.
+pub answered-both :
+    (s d d′ : List ℕ) (x y : Definition) → length s ≤ length d → stringsOf (aliasIn x) d′ ≡ lent s d (label2labelOf s)
+    → stringsOf (destinationIn x) d′ ≡ lent s d (label2destOf s) → x ≡ y
+    → (label2labelOf s ≡ stringsOf (aliasIn y) d′) × (label2destOf s ≡ stringsOf (destinationIn y) d′)
+answered-both s d d′ x y h e f g =
+    (answered s d d′ (label2labelOf s) (aliasIn x) (aliasIn y) h e (ap aliasIn g), answered s d d′ (label2destOf s) (destinationIn x) (destinationIn y) h f (ap destinationIn g))
 
 -- The first form finds a link, or not.
 module _ (f : Form) (fs : List Form) (s : List ℕ) where

@@ -5,8 +5,9 @@ use restructured_text::Strings;
 use restructured_text::inline::rst_text_label2dest;
 use restructured_text::inline::rst_text2dest;
 use restructured_text::inline::rst_text2label;
+use restructured_text::target::Definition;
 use restructured_text::target::rst_label2dest;
-use restructured_text::target::rst_label2label;
+use restructured_text::target::rst_target;
 ghost use mathlib.Core.Path.{_≡_};
 ghost use Prim.Native.Nat.{_+_, _≤_};
 ghost use lib.ListN.{length, take, drop};
@@ -14,25 +15,17 @@ ghost use Rattle.parse.specs.Link.{scannedOf, Ends, behind};
 ghost use Rattle.parse.specs.Forms.{tried, rst};
 ghost use Rattle.parse.specs.Scan.{consumedOf, followed};
 
-// An alias block, else a destination block. No block is both, and most are destinations: so these are tried first.
+// An alias block, else a destination block. No block is both: so both are read at once.
 pub fn block(s: &[u8], skipped: usize, scratch: &mut [u8]) -> Scan
     requires { ⌜ length (now s) ≤ length (now scratch) ⌝ }
     ensures scan { λ r. ⌜ scannedOf r (now (scratch .exit)) ≡ behind skipped (tried (rst .blocks) (now (s .entry))) ⌝ }
     ensures ends { λ r. ⌜ Ends r ⌝ }
 {
-    match rst_label2dest(s, scratch) {
-        Strings::Found(a, b, n) => {
-            return Scan::Found(Link::Label2Dest(a, b, skipped, n));
-        }
-        Strings::NotFound => {}
-        Strings::NoRoom => {
-            return Scan::NoRoom;
-        }
-    }
-    match rst_label2label(s, scratch) {
-        Strings::Found(a, b, n) => Scan::Found(Link::Label2Label(a, b, skipped, n)),
-        Strings::NotFound => Scan::NotFound,
-        Strings::NoRoom => Scan::NoRoom,
+    match rst_target(s, scratch) {
+        Definition::Alias(a, b, n) => Scan::Found(Link::Label2Label(a, b, skipped, n)),
+        Definition::Destination(a, b, n) => Scan::Found(Link::Label2Dest(a, b, skipped, n)),
+        Definition::NoDefinition => Scan::NotFound,
+        Definition::Unread => Scan::NoRoom,
     }
 }
 

@@ -152,7 +152,7 @@ module _ (t : Bool) (a b : Span) (n : ℕ) (s x : List ℕ) where
 pub none-link : (x y : List ℕ) (m : ℕ) → none ≡ link x y m → ⊥
 none-link x y m e = let z : _≡_ {A = ℕ} 0 1 = cc in omega arith
 
-link-room : (x y : List ℕ) (m : ℕ) → link x y m ≡ no-room → ⊥
+pub link-room : (x y : List ℕ) (m : ℕ) → link x y m ≡ no-room → ⊥
 link-room x y m e = let z : _≡_ {A = ℕ} 0 1 = cc in omega arith
 
 pub none-room : none ≡ no-room → ⊥

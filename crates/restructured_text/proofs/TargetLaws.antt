@@ -5,7 +5,7 @@ use Prim.Native.Nat.{ℕ, zero, suc, _+_, _<_, _≤_}
 use native.Mathlib.Omega.{arith}
 use mathlib.Core.Path.{_≡_, refl, sym, ap, subst, subst⁻¹, _∙_}
 use mathlib.Core.List.{List, [], _∷_, _++_}
-use mathlib.Core.Bool.{Bool, true, false, _&&_, _||_, false≢true, true≢false}
+use mathlib.Core.Bool.{Bool, true, false, not, _&&_, _||_, false≢true, true≢false}
 use mathlib.Core.Logic.{_⊎_, inl, inr, ⊎-elim}
 use lib.ListN.{length, drop, take, set, length-take, length-drop}
 use lib.Seq.{take-length, drop-drop}
@@ -27,6 +27,11 @@ use Rattle.restructured_text.specs.declared.target.Name.{Name}
 use Rattle.restructured_text.specs.declared.target.Name.the-variants.{Is, NoName}
 use Rattle.restructured_text.specs.declared.target.Rest.{Rest}
 use Rattle.restructured_text.specs.declared.target.Rest.the-variants.{Target, NoTarget}
+use Rattle.restructured_text.specs.declared.target.Raw.{Raw}
+use Rattle.restructured_text.specs.declared.target.Definition.{Definition}
+use Rattle.restructured_text.specs.declared.target.Definition.the-variants.{Alias, Destination, NoDefinition, Unread}
+use Rattle.restructured_text.specs.declared.Strings.{Strings}
+use Rattle.restructured_text.specs.declared.Strings.the-variants.{Found, NotFound, NoRoom}
 use Rattle.restructured_text.specs.declared.block.Line.{Line}
 use Rattle.restructured_text.specs.declared.block.Line.the-variants.{Further, End}
 use Rattle.restructured_text.specs.declared.block.Block.{Block}
@@ -36,8 +41,8 @@ use Rattle.restructured_text.specs.Delimited.{delimitedOf}
 use Rattle.restructured_text.specs.Label.{simpleLabelOf}
 use Rattle.restructured_text.specs.Block.{startOf, furtherOf, linesOf, BlockText, block, no-block, no-scratch, withLines, blockOf, blockIn, lentBlock}
 use Rattle.restructured_text.specs.Transform.{Given, whole, refused, textOf, destinationOf, answerOf, bytesOf, over}
-use Rattle.restructured_text.specs.Strings.{Link, link, none, no-room, part, paired, linked, lent}
-use Rattle.restructured_text.specs.Target.{plainNameOf, nameOf, labelIn, restOf, isNamed, excluded, behindName, parseLabel2targetOf, namedIn, namedOf, anonymousIn, anonymousOf, anonymousBlockOf, label2targetOf, label2destOf, label2labelOf, startsTarget}
+use Rattle.restructured_text.specs.Strings.{Link, link, none, no-room, part, paired, linked, stringsOf, Ends, lent}
+use Rattle.restructured_text.specs.Target.{plainNameOf, nameOf, labelIn, restOf, isNamed, excluded, behindName, parseLabel2targetOf, namedIn, namedOf, anonymousIn, anonymousOf, anonymousBlockOf, label2targetOf, label2destOf, label2labelOf, startsTarget, aliasIn, destinationIn, askedOf, toldAs, rawIn, rawOf}
 use Rattle.rst_bytes.proofs.Lists.{part-from}
 use Rattle.rst_bytes.proofs.TestLaws.{lt-or-le}
 use Rattle.rst_bytes.proofs.TagLaws.{starts-append}
@@ -47,7 +52,7 @@ use Rattle.restructured_text.proofs.TransformLaws.{answer-part, answer-
 use Rattle.restructured_text.proofs.PartLaws.{part-length, part-front, put-here, put-length, set-here, set-before}
 use Rattle.restructured_text.proofs.Text2targetLaws.{Apart}
 use Rattle.restructured_text.proofs.BlockLaws.{from, start-is, start-begins, lines-end, lines-further, block-none, block-no-line, block-taken, lent-short, lent-enough, block-consumed, block-scratch, block-lf}
-use Rattle.restructured_text.proofs.StringsLaws.{reach}
+use Rattle.restructured_text.proofs.StringsLaws.{reach, link-room, linked-room}
 
 -- A name, by the code's tests: in backticks, else plain.
 abbrev quotedIn : List ℕ → Part
@@ -98,6 +103,33 @@ module _ (label : Bool) (s : List ℕ) where
   pub excluded-rest : (x : SimpleLabel) → label ≡ false → simpleLabelOf s ≡ x → excluded label s ≡ isNamed x
   unfolding excluded
   excluded-rest x l e = rw (l, e)
+
+-- Either target in the rest, by what its reader gave.
+abbrev rawSpan : Raw → Span
+rawSpan r = record { start = r .start; len = r .len }
+
+module _ (s : List ℕ) (r : Raw) (i : r ≡ rawOf s) where
+  pub raw-is : (x : SimpleLabel) → simpleLabelOf s ≡ x → r ≡ rawIn s x
+  unfolding rawOf
+  raw-is x e = i ∙ ap (rawIn s) e
+
+  -- it is the target that is asked for
+  raw-rest : restOf (r .alias) s ≡ Target (rawSpan r)
+  raw-rest = go (simpleLabelOf s) refl
+    where
+      go : (x : SimpleLabel) → simpleLabelOf s ≡ x → restOf (r .alias) s ≡ Target (rawSpan r)
+      go (Named l m) e = subst⁻¹ (λ (y : Raw). restOf (y .alias) s ≡ Target (rawSpan y)) (raw-is _ e) (rest-label true s _ refl e)
+      go NoLabel e = subst⁻¹ (λ (y : Raw). restOf (y .alias) s ≡ Target (rawSpan y)) (raw-is _ e) (rest-all false s refl)
+
+  -- which is not excluded
+  raw-kept : (v : List ℕ) → v ≡ part (rawSpan r) s → excluded (r .alias) v ≡ false
+  raw-kept v j = go (simpleLabelOf s) refl
+    where
+      go : (x : SimpleLabel) → simpleLabelOf s ≡ x → excluded (r .alias) v ≡ false
+      go (Named l m) e = excluded-label (r .alias) v (ap (λ (y : Raw). y .alias) (raw-is _ e))
+      go NoLabel e =
+          excluded-rest (r .alias) v NoLabel (ap (λ (y : Raw). y .alias) (raw-is _ e))
+          (ap simpleLabelOf (j ∙ ap (λ (y : Raw). part (rawSpan y) s) (raw-is _ e) ∙ take-length s) ∙ e)
 
 -- Name and target: v is what stands behind the name.
 module _ (label : Bool) (s : List ℕ) where
@@ -202,7 +234,7 @@ module _ (label : Bool) (text : List ℕ) (n : ℕ) where
 -- The text of a `.. ` block is the first len bytes of d.
 module _ (label : Bool) (d : List ℕ) (len n : ℕ) (h : (len ≤ n) × (n ≤ length d)) (a b : Span) (m : ℕ) (e : parseLabel2targetOf label (take len d) ≡ Parsed a b m) where
   -- name and target stand one behind the other in it
-  pub named-text : b .start + b .len ≤ length (take len d)
+  named-text : b .start + b .len ≤ length (take len d)
   named-text = let w = subst (Apart (length (take len d))) e (parse-apart label (take len d)) in omega (arith, w .1, w .2)
 
   pub named-apart : (a .start + a .len ≤ b .start) × (b .start + b .len ≤ n) × (n ≤ length d)
@@ -212,12 +244,8 @@ module _ (label : Bool) (d : List ℕ) (len n : ℕ) (h : (len ≤ n) × (n ≤ 
   named-within : b .start + b .len ≤ len
   named-within = omega (arith, named-text, length-take len d)
 
-  -- the target is excluded
-  pub named-alias : excluded label (midOf (b .start) (reach b) (take len d)) ≡ true → namedOf label (take len d) n ≡ none
-  named-alias f = named-excluded label (take len d) n a b m e (ap (excluded label) (sym (part-reach b (take len d))) ∙ f)
-
-  -- it is not: name and target are the parts of d
-  pub named-found : excluded label (midOf (b .start) (reach b) (take len d)) ≡ false → namedOf label (take len d) n ≡ linked true d a b n
+  -- the target is not excluded: name and target are the parts of d
+  named-found : excluded label (midOf (b .start) (reach b) (take len d)) ≡ false → namedOf label (take len d) n ≡ linked true d a b n
   named-found f =
       named-linked label (take len d) n a b m e (ap (excluded label) (sym (part-reach b (take len d))) ∙ f)
       ∙ ap (λ (x : List ℕ). paired (textOf x) (destinationOf (part b (take len d))) n) (part-front (a .start) (a .len) len d (omega (arith, named-apart .0, named-within)))
@@ -226,17 +254,13 @@ module _ (label : Bool) (d : List ℕ) (len n : ℕ) (h : (len ≤ n) × (n ≤ 
 -- The text of a `__ ` block is the first len bytes of d.
 module _ (label : Bool) (d : List ℕ) (len n : ℕ) (h : (len < n) × (n ≤ length d)) (t : Span) (e : restOf label (take len d) ≡ Target t) where
   -- the target stands in it
-  pub anonymous-text : t .start + t .len ≤ length (take len d)
+  anonymous-text : t .start + t .len ≤ length (take len d)
   anonymous-text = subst (RestIn (length (take len d))) e (rest-in label (take len d))
 
   pub anonymous-within : t .start + t .len ≤ len
   anonymous-within = omega (arith, anonymous-text, length-take len d)
 
-  -- the target is excluded
-  pub anonymous-alias : excluded label (midOf (t .start) (reach t) (take len d)) ≡ true → anonymousOf label (take len d) n ≡ none
-  anonymous-alias f = anonymous-excluded label (take len d) n t e (ap (excluded label) (sym (part-reach t (take len d))) ∙ f)
-
-  -- it is not: the transform left y in its place
+  -- it is not excluded: the transform left y in its place
   module _ (f : excluded label (midOf (t .start) (reach t) (take len d)) ≡ false) where
     -- the target is the part of d
     anonymous-part : anonymousOf label (take len d) n ≡ paired (whole (0x5F ∷ [])) (destinationOf (midOf (t .start) (reach t) d)) n
@@ -264,6 +288,125 @@ module _ (label : Bool) (d : List ℕ) (len n : ℕ) (h : (len < n) × (n ≤ le
           let u : take 1 (drop len left) ≡ 0x5F ∷ [] = set-here (putMid (t .start) (reach t) d y) len 0x5F (omega (arith, q)) in
           let v : take j (drop (t .start) left) ≡ take j y = set-before (putMid (t .start) (reach t) d y) len 0x5F (t .start) j r ∙ put-here (t .start) (reach t) d y j (omega (arith, anonymous-within)) (w .1) in
           (rw (u, v) (sym (anonymous-part ∙ ap (λ (x : Given). paired (whole (0x5F ∷ [])) x n) (w .0))), (omega arith, omega (arith, r)))
+
+-- The other target: where the rest begins with a simple label there is no destination, and else no alias.
+module _ (text : List ℕ) (n : ℕ) where
+  -- the label at the front excludes the whole
+  whole-excluded : (v : List ℕ) (l : Label) (m : ℕ) → simpleLabelOf v ≡ Named l m → (w : List ℕ) → w ≡ v → excluded false w ≡ true
+  whole-excluded v l m e w i = excluded-rest false w (Named l m) refl (ap simpleLabelOf i ∙ e)
+
+  named-other : (name : Span) (k : ℕ) → nameOf text ≡ Is name k → (r : Raw) → r ≡ rawOf (drop k text) → namedOf (not (r .alias)) text n ≡ none
+  named-other name k e r i = go (simpleLabelOf (drop k text)) refl
+    where
+      go : (x : SimpleLabel) → simpleLabelOf (drop k text) ≡ x → namedOf (not (r .alias)) text n ≡ none
+      go (Named l m) f =
+          let z : k + 0 ≡ k = omega arith in
+          ap (λ (y : Raw). namedOf (not (y .alias)) text n) (raw-is (drop k text) r i _ f)
+          ∙ named-excluded false text n _ _ _ (parse-rest false text name k (drop k text) _ e refl (rest-all false (drop k text) refl))
+          (whole-excluded (drop k text) l m f _ (ap (λ (i : ℕ). take (length (drop k text)) (drop i text)) z ∙ take-length (drop k text)))
+      go NoLabel f =
+          ap (λ (y : Raw). namedOf (not (y .alias)) text n) (raw-is (drop k text) r i _ f)
+          ∙ named-none true text n (parse-rest true text name k (drop k text) NoTarget e refl (rest-label true (drop k text) NoLabel refl f))
+
+  anonymous-other : (r : Raw) → r ≡ rawOf text → anonymousOf (not (r .alias)) text n ≡ none
+  anonymous-other r i = go (simpleLabelOf text) refl
+    where
+      go : (x : SimpleLabel) → simpleLabelOf text ≡ x → anonymousOf (not (r .alias)) text n ≡ none
+      go (Named l m) f =
+          ap (λ (y : Raw). anonymousOf (not (y .alias)) text n) (raw-is text r i _ f)
+          ∙ anonymous-excluded false text n _ (rest-all false text refl) (whole-excluded text l m f _ (take-length text))
+      go NoLabel f =
+          ap (λ (y : Raw). anonymousOf (not (y .alias)) text n) (raw-is text r i _ f)
+          ∙ anonymous-none true text n (rest-label true text NoLabel refl f)
+
+-- What an answer y says of both, with the scratch d: F is what there is of an alias and of a destination.
+abbrev Both : (Bool → Link) → List ℕ → Definition → Type 0
+Both F d y =
+    (stringsOf (aliasIn y) d ≡ F true) × ((stringsOf (destinationIn y) d ≡ F false) × (Ends (aliasIn y) × Ends (destinationIn y)))
+
+-- found and told as one of them
+pub told-alias : (alias : Bool) (x : Strings) (a b : Span) (n : ℕ) → alias ≡ true → x ≡ Found a b n → Alias a b n ≡ toldAs alias x
+told-alias alias x a b n e f = rw (e, f)
+
+pub told-destination : (alias : Bool) (x : Strings) (a b : Span) (n : ℕ) → alias ≡ false → x ≡ Found a b n → Destination a b n ≡ toldAs alias x
+told-destination alias x a b n e f = rw (e, f)
+
+-- there is none of the other
+told-both : (F : Bool → Link) (d : List ℕ) (alias : Bool) (x : Strings) → stringsOf x d ≡ F alias → (F alias ≡ no-room → ⊥) → F (not alias) ≡ none → Ends x → Both F d (toldAs alias x)
+told-both F d true (Found a b n) e r f w = (e, (sym f, (w, tt)))
+told-both F d false (Found a b n) e r f w = (sym f, (e, (tt, w)))
+told-both F d true NotFound e r f w = (e, (sym f, (tt, tt)))
+told-both F d false NotFound e r f w = (sym f, (e, (tt, tt)))
+told-both F d true NoRoom e r f w = absurd (r (sym e))
+told-both F d false NoRoom e r f w = absurd (r (sym e))
+
+-- there is neither
+told-neither : (F : Bool → Link) (alias : Bool) → F alias ≡ none → F (not alias) ≡ none → Both F [] NoDefinition
+told-neither F true e f = (sym e, (sym f, (tt, tt)))
+told-neither F false e f = (sym f, (sym e, (tt, tt)))
+
+-- the same of G
+both-are : (F G : Bool → Link) (d : List ℕ) (y : Definition) → ((l : Bool) → F l ≡ G l) → Both F d y → Both G d y
+both-are F G d y e w = (w .0 ∙ e true, (w .1 .0 ∙ e false, w .1 .1))
+
+-- The text of a `.. ` block is the first len bytes of d; r is what the reader of v, which stands behind the name, gave.
+module _ (d : List ℕ) (len n : ℕ) (h : (len ≤ n) × (n ≤ length d)) where
+  -- there is no name
+  pub nameless : nameOf (take len d) ≡ NoName → Both (λ (l : Bool). namedOf l (take len d) n) [] NoDefinition
+  nameless e =
+      told-neither (λ (l : Bool). namedOf l (take len d) n) true (named-none true (take len d) n (parse-none true (take len d) e))
+      (named-none false (take len d) n (parse-none false (take len d) e))
+
+  module _ (name : Span) (k : ℕ) (e : nameOf (take len d) ≡ Is name k) (v : List ℕ) (iv : v ≡ drop k (take len d)) (r : Raw) (i : r ≡ rawOf v) where
+    abbrev target : Span
+    target = record { start = k + r .start; len = r .len }
+
+    parsed : parseLabel2targetOf (r .alias) (take len d) ≡ Parsed name target (length (take len d))
+    parsed = parse-rest (r .alias) (take len d) name k v _ e iv (raw-rest v r i)
+
+    pub named-stands : (name .start + name .len ≤ target .start) × (target .start + target .len ≤ n) × (n ≤ length d)
+    named-stands = named-apart (r .alias) d len n h name target _ parsed
+
+    kept : excluded (r .alias) (midOf (target .start) (reach target) (take len d)) ≡ false
+    kept =
+        raw-kept v r i _
+        (part-reach target (take len d)
+        ∙ ap (take (r .len)) (sym (drop-drop (r .start) k (take len d)))
+        ∙ ap (λ (x : List ℕ). part (rawSpan r) x) (sym iv))
+
+    is-linked : namedOf (r .alias) (take len d) n ≡ linked true d name target n
+    is-linked = named-found (r .alias) d len n h name target _ parsed kept
+
+    -- both were transformed and told
+    pub named-told : (d′ : List ℕ) (x : Strings) (y : Definition) → stringsOf x d′ ≡ linked true d name target n → Ends x → y ≡ toldAs (r .alias) x → Both (λ (l : Bool). namedOf l (take len d) n) d′ y
+    named-told d′ x y f w g =
+        subst⁻¹ (Both (λ (l : Bool). namedOf l (take len d) n) d′) g
+        (told-both (λ (l : Bool). namedOf l (take len d) n) d′ (r .alias) x (f ∙ sym is-linked) (λ z. linked-room true name target n d (sym is-linked ∙ z)) (named-other (take len d) n name k e r (i ∙ ap rawOf iv)) w)
+
+-- That of a `__ ` block likewise; r is what the reader of the text gave.
+module _ (d : List ℕ) (len n : ℕ) (h : (len < n) × (n ≤ length d)) (r : Raw) (i : r ≡ rawOf (take len d)) where
+  pub anonymous-stands : r .start + r .len ≤ len
+  anonymous-stands = anonymous-within (r .alias) d len n h (rawSpan r) (raw-rest (take len d) r i)
+
+  whole-kept : excluded (r .alias) (midOf (r .start) (reach (rawSpan r)) (take len d)) ≡ false
+  whole-kept = raw-kept (take len d) r i _ (part-reach (rawSpan r) (take len d))
+
+  -- it was refused
+  pub anonymous-refused : Wrong ≡ answerOf (destinationOf (midOf (r .start) (reach (rawSpan r)) d)) → Both (λ (l : Bool). anonymousOf l (take len d) n) [] NoDefinition
+  anonymous-refused g =
+      told-neither (λ (l : Bool). anonymousOf l (take len d) n) (r .alias) (anonymous-wrong (r .alias) d len n h (rawSpan r) (raw-rest (take len d) r i) whole-kept g)
+      (anonymous-other (take len d) n r i)
+
+  -- it gave a string, which was told with the name behind the text
+  pub anonymous-told :
+      (y z : List ℕ) (j : ℕ) (x : Definition) → length y ≡ length (midOf (r .start) (reach (rawSpan r)) d)
+      → Text j ≡ answerOf (destinationOf (midOf (r .start) (reach (rawSpan r)) d)) → y ≡ over (bytesOf (destinationOf (midOf (r .start) (reach (rawSpan r)) d))) z
+      → x ≡ toldAs (r .alias) (Found record { start = len; len = 1 } record { start = r .start; len = j } n)
+      → Both (λ (l : Bool). anonymousOf l (take len d) n) (set (putMid (r .start) (reach (rawSpan r)) d y) len 0x5F) x
+  anonymous-told y z j x l g f e =
+      let w = anonymous-found (r .alias) d len n h (rawSpan r) (raw-rest (take len d) r i) whole-kept y z l j g f in
+      subst⁻¹ (Both (λ (a : Bool). anonymousOf a (take len d) n) (set (putMid (r .start) (reach (rawSpan r)) d y) len 0x5F)) e
+      (told-both (λ (a : Bool). anonymousOf a (take len d) n) (set (putMid (r .start) (reach (rawSpan r)) d y) len 0x5F) (r .alias) (Found record { start = len; len = 1 } record { start = r .start; len = j } n) (w .0) (λ q. link-room _ _ _ (w .0 ∙ q)) (anonymous-other (take len d) n r i) (w .1))
 
 -- A block's start, `.. ` or `__ `.
 abbrev dots : List ℕ
@@ -329,33 +472,36 @@ block-room header s d d′ x len n l f e h = joined-within header s d d′ len n
 
 -- What the first reader answered, and left in d′.
 module _ (s d d′ : List ℕ) (x : Block) (l : length d′ ≡ length d) (f : blockIn x d′ ≡ lentBlock s d (blockOf dots s)) where
-  module _ (label : Bool) where
-    first : (y : BlockText) → blockIn x d′ ≡ y → targetIn label y (lentBlock s d (blockOf strokes s)) ≡ lent s d (label2targetOf label s)
-    first y e = ap (λ (b : BlockText). targetIn label b (lentBlock s d (blockOf strokes s))) (sym e ∙ f) ∙ target-lent label s d d refl
+  abbrev given : Bool → Link
+  given label = lent s d (label2targetOf label s)
 
-    pub target-named : (len n : ℕ) → x ≡ Joined len n → namedOf label (take len d′) n ≡ lent s d (label2targetOf label s)
-    target-named len n e = first _ (ap (λ (b : Block). blockIn b d′) e)
+  first : (y : BlockText) → blockIn x d′ ≡ y → (label : Bool) → targetIn label y (lentBlock s d (blockOf strokes s)) ≡ given label
+  first y e label = ap (λ (b : BlockText). targetIn label b (lentBlock s d (blockOf strokes s))) (sym e ∙ f) ∙ target-lent label s d d refl
 
-    pub target-no-room : x ≡ NoScratch → no-room ≡ lent s d (label2targetOf label s)
-    target-no-room e = first _ (ap (λ (b : Block). blockIn b d′) e)
+  pub target-named : (len n : ℕ) → x ≡ Joined len n → (d″ : List ℕ) (y : Definition) → Both (λ (a : Bool). namedOf a (take len d′) n) d″ y → Both given d″ y
+  target-named len n e d″ y w = both-are (λ (a : Bool). namedOf a (take len d′) n) given d″ y (first _ (ap (λ (b : Block). blockIn b d′) e)) w
+
+  pub target-no-room : x ≡ NoScratch → Both given [] Unread
+  target-no-room e =
+      let w = first no-scratch (ap (λ (b : Block). blockIn b d′) e) in
+      (w true, (w false, (tt, tt)))
 
   -- There was no block. What the second reader answered, and left in d″.
   module _ (e : x ≡ NoBlock) (d″ : List ℕ) (y : Block) (g : blockIn y d″ ≡ lentBlock s d′ (blockOf strokes s)) where
-    module _ (label : Bool) where
-      second : (z : Block) → y ≡ z → anonymousBlockOf label (blockIn z d″) ≡ lent s d (label2targetOf label s)
-      second z i =
-          ap (anonymousBlockOf label) (sym (ap (λ (b : Block). blockIn b d″) i) ∙ g)
-          ∙ ap (λ (b : BlockText). targetIn label b (lentBlock s d′ (blockOf strokes s))) (sym (ap (λ (b : Block). blockIn b d′) e) ∙ f)
-          ∙ target-lent label s d d′ l
+    second : (z : Block) → y ≡ z → (label : Bool) → anonymousBlockOf label (blockIn z d″) ≡ given label
+    second z i label =
+        ap (anonymousBlockOf label) (sym (ap (λ (b : Block). blockIn b d″) i) ∙ g)
+        ∙ ap (λ (b : BlockText). targetIn label b (lentBlock s d′ (blockOf strokes s))) (sym (ap (λ (b : Block). blockIn b d′) e) ∙ f)
+        ∙ target-lent label s d d′ l
 
-      pub target-anonymous : (len n : ℕ) → y ≡ Joined len n → anonymousOf label (take len d″) n ≡ lent s d (label2targetOf label s)
-      target-anonymous len n i = second (Joined len n) i
+    pub target-anonymous : (len n : ℕ) → y ≡ Joined len n → (d‴ : List ℕ) (z : Definition) → Both (λ (a : Bool). anonymousOf a (take len d″) n) d‴ z → Both given d‴ z
+    target-anonymous len n i d‴ z w = both-are (λ (a : Bool). anonymousOf a (take len d″) n) given d‴ z (second (Joined len n) i) w
 
-      pub target-none : y ≡ NoBlock → none ≡ lent s d (label2targetOf label s)
-      target-none i = second NoBlock i
+    pub target-none : y ≡ NoBlock → Both given [] NoDefinition
+    target-none i = (second NoBlock i true, (second NoBlock i false, (tt, tt)))
 
-      pub target-no-room₂ : y ≡ NoScratch → no-room ≡ lent s d (label2targetOf label s)
-      target-no-room₂ i = second NoScratch i
+    pub target-no-room₂ : y ≡ NoScratch → Both given [] Unread
+    target-no-room₂ i = (second NoScratch i true, (second NoScratch i false, (tt, tt)))
 
 -- With a destination, or with an alias.
 pub dest-lent : (s d : List ℕ) → lent s d (label2targetOf false s) ≡ lent s d (label2destOf s)
@@ -365,6 +511,29 @@ dest-lent s d = refl
 pub label-lent : (s d : List ℕ) → lent s d (label2targetOf true s) ≡ lent s d (label2labelOf s)
 unfolding label2labelOf
 label-lent s d = refl
+
+-- With the one that is asked for, by the answer of the reader of both.
+module _ (label : Bool) (x y : Definition) (i : x ≡ y) where
+  pub asked-alias : label ≡ true → aliasIn y ≡ askedOf label x
+  asked-alias e = rw (e, i)
+
+  pub asked-destination : label ≡ false → destinationIn y ≡ askedOf label x
+  asked-destination e = rw (e, i)
+
+  -- both are the same
+  pub asked-either : aliasIn y ≡ destinationIn y → aliasIn y ≡ askedOf label x
+  asked-either f = go label refl
+    where
+      go : (l : Bool) → label ≡ l → aliasIn y ≡ askedOf label x
+      go true e = asked-alias e
+      go false e = f ∙ asked-destination e
+
+pub asked-both :
+    (s d d′ : List ℕ) (label : Bool) (x : Definition) (y : Strings) → stringsOf (aliasIn x) d′ ≡ lent s d (label2labelOf s)
+    → stringsOf (destinationIn x) d′ ≡ lent s d (label2destOf s) → Ends (aliasIn x) × Ends (destinationIn x) → y ≡ askedOf label x
+    → (stringsOf y d′ ≡ lent s d (label2targetOf label s)) × Ends y
+asked-both s d d′ true x y f g w e = (ap (λ (z : Strings). stringsOf z d′) e ∙ f ∙ sym (label-lent s d), subst⁻¹ Ends e (w .0))
+asked-both s d d′ false x y f g w e = (ap (λ (z : Strings). stringsOf z d′) e ∙ g ∙ sym (dest-lent s d), subst⁻¹ Ends e (w .1))
 
 -- What a link consumes: at least one byte, at most `size`, and as many as its strings have together. There is no want of scratch.
 abbrev LinkIn : ℕ → Link → Type 0
@@ -445,33 +614,21 @@ module _ (s : List ℕ) where
   unfolding label2labelOf
   label2label-room e = label2target-room true s e
 
--- A text gives an alias or a destination: the alias begins with a simple label, which excludes the destination.
-module _ (text : List ℕ) (n : ℕ) where
-  -- the label at the front excludes the whole
-  whole-excluded : (v : List ℕ) (l : Label) (m : ℕ) → simpleLabelOf v ≡ Named l m → (w : List ℕ) → w ≡ v → excluded false w ≡ true
-  whole-excluded v l m e w i = excluded-rest false w (Named l m) refl (ap simpleLabelOf i ∙ e)
+-- A text gives an alias or a destination, not both.
+one-of : (F : Bool → Link) (alias : Bool) → F (not alias) ≡ none → (F true ≡ none) ⊎ (F false ≡ none)
+one-of F true e = inr e
+one-of F false e = inl e
 
+module _ (text : List ℕ) (n : ℕ) where
   one-named : (namedOf true text n ≡ none) ⊎ (namedOf false text n ≡ none)
   one-named = go (nameOf text) refl
     where
-      rest : (name : Span) (k : ℕ) → nameOf text ≡ Is name k → (x : SimpleLabel) → simpleLabelOf (drop k text) ≡ x → (namedOf true text n ≡ none) ⊎ (namedOf false text n ≡ none)
-      rest name k e (Named l m) f =
-          let z : k + 0 ≡ k = omega arith in
-          inr
-          (named-excluded false text n _ _ _ (parse-rest false text name k (drop k text) _ e refl (rest-all false (drop k text) refl))
-          (whole-excluded (drop k text) l m f _ (ap (λ (i : ℕ). take (length (drop k text)) (drop i text)) z ∙ take-length (drop k text))))
-      rest name k e NoLabel f = inl (named-none true text n (parse-rest true text name k (drop k text) NoTarget e refl (rest-label true (drop k text) NoLabel refl f)))
-
       go : (x : Name) → nameOf text ≡ x → (namedOf true text n ≡ none) ⊎ (namedOf false text n ≡ none)
-      go (Is name k) e = rest name k e _ refl
+      go (Is name k) e = one-of (λ (l : Bool). namedOf l text n) (rawOf (drop k text) .alias) (named-other text n name k e _ refl)
       go NoName e = inl (named-none true text n (parse-none true text e))
 
   one-anonymous : (anonymousOf true text n ≡ none) ⊎ (anonymousOf false text n ≡ none)
-  one-anonymous = go (simpleLabelOf text) refl
-    where
-      go : (x : SimpleLabel) → simpleLabelOf text ≡ x → (anonymousOf true text n ≡ none) ⊎ (anonymousOf false text n ≡ none)
-      go (Named l m) e = inr (anonymous-excluded false text n _ (rest-all false text refl) (whole-excluded text l m e _ (take-length text)))
-      go NoLabel e = inl (anonymous-none true text n (rest-label true text NoLabel refl e))
+  one-anonymous = one-of (λ (l : Bool). anonymousOf l text n) (rawOf text .alias) (anonymous-other text n _ refl)
 
 one-target : (s : List ℕ) → (label2targetOf true s ≡ none) ⊎ (label2targetOf false s ≡ none)
 one-target s = named (blockOf dots s) refl
@@ -605,3 +762,13 @@ module _ (label : Bool) (s : List ℕ) (e : startsTarget s ≡ false) where
 
   pub no-target : label2targetOf label s ≡ none
   no-target = sym (target-is label s) ∙ ap (targetIn label (blockOf dots s)) no-strokes ∙ no-dots
+
+-- and so neither of them
+module _ (s : List ℕ) (e : startsTarget s ≡ false) where
+  pub no-label : label2labelOf s ≡ none
+  unfolding label2labelOf
+  no-label = no-target true s e
+
+  pub no-destination : label2destOf s ≡ none
+  unfolding label2destOf
+  no-destination = no-target false s e

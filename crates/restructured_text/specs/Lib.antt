@@ -14,6 +14,7 @@
 --                label2targetOf       target::rst_label2target                           a target block
 --                label2destOf         target::rst_label2dest                             one with a destination
 --                label2labelOf        target::rst_label2label                            one with an alias
+--                both of these        target::rst_target                                 one with either, read once
 -- Delimited says what a part between two tags is. Strings says what an answer means with the scratch as the parser left it, and
 -- that a scratch as long as the input is enough and is asked for; the strings then end within as many bytes of it as are consumed
 -- (Ends, part of each contract).
@@ -30,8 +31,8 @@
 --   none         where no backticked run begins there is no inline form: InlineLaws text2dest-refused, text-label2dest-refused,
 --                text2label-refused; DelimitedLaws backticked-other: another byte than a backtick begins no run; where the run that
 --                begins has no <, or two, there is no embedded link: InlineLaws embedded-unbracketed, embedded-opened; and where
---                there is none with more text before it, there is none: embedded-longer; TargetLaws no-target: where neither
---                `.. _` nor `__ ` starts there is no target
+--                there is none with more text before it, there is none: embedded-longer; TargetLaws no-target, no-label,
+--                no-destination: where neither `.. _` nor `__ ` starts there is no target
 --   calm         where no _ and no backtick stands before white space or the end (Calm) no inline form is found: CalmLaws calm-text2dest,
 --                calm-text-label2dest, calm-text2label; before LF or the end no target either: calm-label2dest, calm-label2label
 --   appending    on s ++ 10 ∷ t, for `Tail t`: Text2targetLaws text2target-lf; LabelLaws simple-lf, reference-lf; InlineLaws

@@ -14,6 +14,7 @@ use rst_bytes::Part;
 use rst_bytes::line::space0;
 use rst_bytes::tag::tag;
 ghost use mathlib.Core.Path.{_≡_};
+ghost use mathlib.Core.Bool.{true, false};
 ghost use Prim.Native.Nat.{_≤_, _<_};
 ghost use lib.ListN.{length, take};
 ghost use Rattle.restructured_text.specs.Strings.{lent, stringsOf, Ends};
@@ -21,7 +22,6 @@ ghost use Rattle.restructured_text.specs.Target.{
   plainNameOf,
   nameOf,
   restOf,
-  excluded,
   parseLabel2targetOf,
   namedOf,
   anonymousOf,
@@ -29,6 +29,11 @@ ghost use Rattle.restructured_text.specs.Target.{
   label2destOf,
   label2labelOf,
   startsTarget,
+  rawOf,
+  aliasIn,
+  destinationIn,
+  toldAs,
+  askedOf,
 };
 
 // A name and how many bytes it takes with what stands around it, or that there is none.
@@ -41,6 +46,22 @@ pub enum Name {
 pub enum Rest {
     Target(Span),
     NoTarget,
+}
+
+// The raw target in what follows the name: where it stands, and whether it is an alias's.
+pub struct Raw {
+    pub alias: bool,
+    pub start: usize,
+    pub len: usize,
+}
+
+// What a target block defines: its name and its target, where they stand in the scratch, and how many bytes of the input were
+// consumed; or that there is no such block; or that the scratch is shorter than the input.
+pub enum Definition {
+    Alias(Span, Span, usize),
+    Destination(Span, Span, usize),
+    NoDefinition,
+    Unread,
 }
 
 // A plain name, with its colon and one space.
@@ -85,19 +106,6 @@ fn rest_target(s: &[u8], label: bool) -> Rest
     }
 }
 
-// Whether a destination begins with a simple label, so that it is none.
-fn is_alias(s: &[u8], label: bool) -> bool
-    ensures { λ r. ⌜ r ≡ excluded label (now (s .entry)) ⌝ }
-{
-    if label {
-        return false;
-    }
-    match rst_parse_simple_label(s) {
-        SimpleLabel::Named(_, _) => true,
-        SimpleLabel::NoLabel => false,
-    }
-}
-
 // The name and the target in a block's text.
 pub fn rst_parse_label2target(s: &[u8], label: bool) -> Spans
     ensures { λ r. ⌜ r ≡ parseLabel2targetOf label (now (s .entry)) ⌝ }
@@ -121,52 +129,77 @@ pub fn rst_parse_label2target(s: &[u8], label: bool) -> Spans
     }
 }
 
-// The target of a `.. ` block whose text is the first len bytes of d and which consumed n bytes.
-fn named_target(d: &mut [u8], label: bool, len: usize, n: usize) -> Strings
-    requires { ⌜ (len ≤ n) × (n ≤ length (now d)) ⌝ }
-    ensures strings { λ r. ⌜ stringsOf r (now (d .exit)) ≡ namedOf label (take len (now (d .entry))) n ⌝ }
-    ensures ends { λ r. ⌜ Ends r ⌝ }
+// The raw target of either: the simple label at the front, which makes an alias, else all of it.
+fn raw_target(s: &[u8]) -> Raw
+    ensures { λ r. ⌜ r ≡ rawOf (now (s .entry)) ⌝ }
 {
-    let v = &d[..];
-    let text = &v[..len];
-    match rst_parse_label2target(text, label) {
-        Spans::Parsed(name, target, _) => {
-            let b = target.start;
-            let e = b + target.len;
-            if is_alias(&text[b..e], label) {
-                return Strings::NotFound;
-            }
-            transformed(d, name, target, true, n)
-        }
-        Spans::Nothing => Strings::NotFound,
+    match rst_parse_simple_label(s) {
+        SimpleLabel::Named(l, _) => Raw {
+            alias: true,
+            start: l.start,
+            len: l.len,
+        },
+        SimpleLabel::NoLabel => Raw {
+            alias: false,
+            start: 0,
+            len: s.len(),
+        },
     }
 }
 
-// The target of a `__ ` block, likewise: its name, `_`, is put behind the text.
-fn anonymous_target(d: &mut [u8], label: bool, len: usize, n: usize) -> Strings
-    requires { ⌜ (len < n) × (n ≤ length (now d)) ⌝ }
-    ensures strings { λ r. ⌜ stringsOf r (now (d .exit)) ≡ anonymousOf label (take len (now (d .entry))) n ⌝ }
-    ensures ends { λ r. ⌜ Ends r ⌝ }
+// Name and target that were found, told as those of an alias or of a destination.
+fn told(found: Strings, alias: bool) -> Definition
+    ensures { λ r. ⌜ r ≡ toldAs alias found ⌝ }
+{
+    match found {
+        Strings::Found(a, b, n) => {
+            if alias {
+                return Definition::Alias(a, b, n);
+            }
+            Definition::Destination(a, b, n)
+        }
+        Strings::NotFound => Definition::NoDefinition,
+        Strings::NoRoom => Definition::Unread,
+    }
+}
+
+// What a `.. ` block defines whose text is the first len bytes of d and which consumed n bytes.
+fn named_target(d: &mut [u8], len: usize, n: usize) -> Definition
+    requires { ⌜ (len ≤ n) × (n ≤ length (now d)) ⌝ }
+    ensures alias { λ r. ⌜ stringsOf (aliasIn r) (now (d .exit)) ≡ namedOf true (take len (now (d .entry))) n ⌝ }
+    ensures destination { λ r. ⌜ stringsOf (destinationIn r) (now (d .exit)) ≡ namedOf false (take len (now (d .entry))) n ⌝ }
+    ensures ends { λ r. ⌜ Ends (aliasIn r) × Ends (destinationIn r) ⌝ }
 {
     let v = &d[..];
     let text = &v[..len];
-    match rest_target(text, label) {
-        Rest::Target(t) => {
-            let b = t.start;
-            let e = b + t.len;
-            if is_alias(&text[b..e], label) {
-                return Strings::NotFound;
-            }
-            match rst_escaped_link_destination_transform(&mut d[b..e]) {
-                Transformed::Text(j) => {
-                    d[len] = b'_';
-                    Strings::Found(Span { start: len, len: 1 }, Span { start: b, len: j }, n)
-                }
-                Transformed::Wrong => Strings::NotFound,
-            }
-        }
-        Rest::NoTarget => Strings::NotFound,
-    }
+    let Name::Is(name, k) = target_name(text) else {
+        return Definition::NoDefinition;
+    };
+    let raw = raw_target(&text[k..]);
+    let target = Span {
+        start: k + raw.start,
+        len: raw.len,
+    };
+    told(transformed(d, name, target, true, n), raw.alias)
+}
+
+// What a `__ ` block defines, likewise: its name, `_`, is put behind the text.
+fn anonymous_target(d: &mut [u8], len: usize, n: usize) -> Definition
+    requires { ⌜ (len < n) × (n ≤ length (now d)) ⌝ }
+    ensures alias { λ r. ⌜ stringsOf (aliasIn r) (now (d .exit)) ≡ anonymousOf true (take len (now (d .entry))) n ⌝ }
+    ensures destination { λ r. ⌜ stringsOf (destinationIn r) (now (d .exit)) ≡ anonymousOf false (take len (now (d .entry))) n ⌝ }
+    ensures ends { λ r. ⌜ Ends (aliasIn r) × Ends (destinationIn r) ⌝ }
+{
+    let v = &d[..];
+    let raw = raw_target(&v[..len]);
+    let b = raw.start;
+    let e = b + raw.len;
+    let Transformed::Text(j) = rst_escaped_link_destination_transform(&mut d[b..e]) else {
+        return Definition::NoDefinition;
+    };
+    d[len] = b'_';
+    let found = Strings::Found(Span { start: len, len: 1 }, Span { start: b, len: j }, n);
+    told(found, raw.alias)
 }
 
 // Whether a target may start: behind the indent `.. _`, or `__ `.
@@ -181,34 +214,66 @@ fn starts_target(s: &[u8]) -> bool
     tag(t, b"__ ")
 }
 
-// A target block, whatever it starts with.
-fn block_target(s: &[u8], scratch: &mut [u8], label: bool) -> Strings
-    ensures strings { λ r. ⌜ stringsOf r (now (scratch .exit)) ≡ lent (now (s .entry)) (now (scratch .entry)) (label2targetOf label (now (s .entry))) ⌝ }
-    ensures ends { λ r. ⌜ Ends r ⌝ }
+// What a block defines, whatever it starts with.
+fn block_target(s: &[u8], scratch: &mut [u8]) -> Definition
+    ensures alias { λ r. ⌜ stringsOf (aliasIn r) (now (scratch .exit)) ≡ lent (now (s .entry)) (now (scratch .entry)) (label2targetOf true (now (s .entry))) ⌝ }
+    ensures destination { λ r. ⌜ stringsOf (destinationIn r) (now (scratch .exit)) ≡ lent (now (s .entry)) (now (scratch .entry)) (label2targetOf false (now (s .entry))) ⌝ }
+    ensures ends { λ r. ⌜ Ends (aliasIn r) × Ends (destinationIn r) ⌝ }
 {
     match rst_explicit_markup_block(s, b".. ", scratch) {
-        Block::Joined(len, n) => named_target(scratch, label, len, n),
+        Block::Joined(len, n) => named_target(scratch, len, n),
         Block::NoBlock => match rst_explicit_markup_block(s, b"__ ", scratch) {
-            Block::Joined(len, n) => anonymous_target(scratch, label, len, n),
-            Block::NoBlock => Strings::NotFound,
-            Block::NoScratch => Strings::NoRoom,
+            Block::Joined(len, n) => anonymous_target(scratch, len, n),
+            Block::NoBlock => Definition::NoDefinition,
+            Block::NoScratch => Definition::Unread,
         },
-        Block::NoScratch => Strings::NoRoom,
+        Block::NoScratch => Definition::Unread,
     }
 }
 
-// A target block with an alias, if `label`, or with a destination: its name and its target. A block that is none is not read.
+// A target block with an alias or with a destination, which is read once. A block that is none is not read.
+pub fn rst_target(s: &[u8], scratch: &mut [u8]) -> Definition
+    ensures alias { λ r. ⌜ stringsOf (aliasIn r) (now (scratch .exit)) ≡ lent (now (s .entry)) (now (scratch .entry)) (label2labelOf (now (s .entry))) ⌝ }
+    ensures destination { λ r. ⌜ stringsOf (destinationIn r) (now (scratch .exit)) ≡ lent (now (s .entry)) (now (scratch .entry)) (label2destOf (now (s .entry))) ⌝ }
+    ensures ends { λ r. ⌜ Ends (aliasIn r) × Ends (destinationIn r) ⌝ }
+{
+    if starts_target(s) {
+        return block_target(s, scratch);
+    }
+    if scratch.len() < s.len() {
+        return Definition::Unread;
+    }
+    Definition::NoDefinition
+}
+
+// What was asked for, an alias or a destination, if the block defines that.
+fn asked(found: Definition, label: bool) -> Strings
+    ensures { λ r. ⌜ r ≡ askedOf label found ⌝ }
+{
+    match found {
+        Definition::Alias(a, b, n) => {
+            if label {
+                return Strings::Found(a, b, n);
+            }
+            Strings::NotFound
+        }
+        Definition::Destination(a, b, n) => {
+            if label {
+                return Strings::NotFound;
+            }
+            Strings::Found(a, b, n)
+        }
+        Definition::NoDefinition => Strings::NotFound,
+        Definition::Unread => Strings::NoRoom,
+    }
+}
+
+// A target block with an alias, if `label`, or with a destination: its name and its target.
 pub fn rst_label2target(s: &[u8], scratch: &mut [u8], label: bool) -> Strings
     ensures strings { λ r. ⌜ stringsOf r (now (scratch .exit)) ≡ lent (now (s .entry)) (now (scratch .entry)) (label2targetOf label (now (s .entry))) ⌝ }
     ensures ends { λ r. ⌜ Ends r ⌝ }
 {
-    if starts_target(s) {
-        return block_target(s, scratch, label);
-    }
-    if scratch.len() < s.len() {
-        return Strings::NoRoom;
-    }
-    Strings::NotFound
+    asked(rst_target(s, scratch), label)
 }
 
 // A block that gives a name a destination.

@@ -2,7 +2,6 @@
 -- enough and what the block's text is. A block consumes more bytes than its text has, and no more than there are, which is what
 -- `named_target` and `anonymous_target` ask.
 -- Assumes nothing.
-use mathlib.Core.Path.{_∙_}
 use native.Mathlib.Omega.{arith}
 use borrow.Author.Needs.{needs}
 use Rattle.restructured_text.proofs.TargetLaws.{block-room, target-named, target-no-room, target-anonymous, target-none, target-no-room₂}
@@ -57,7 +56,8 @@ returns : tie.Need-returns
 returns c =
     let s = c .before .before .before .before .before .before .before .before .before .before .before .before .before .before .args in
     let x = c .before .before .before .before .before .before .before .before .before .rst-explicit-markup-block in
-    (c .before .before .named-target .ensures .0 ∙ target-named (s .s .now) (s .scratch .now) _ _ (c .before .before .before .before .before .before .before .before .scratch .given) (x .ensures) (s .label) _ _ (c .before .before .before .before .before .len .given .1), c .before .before .named-target .ensures .1)
+    let y = c .before .before .named-target in
+    target-named (s .s .now) (s .scratch .now) _ _ (c .before .before .before .before .before .before .before .before .scratch .given) (x .ensures) _ _ (c .before .before .before .before .before .len .given .1) (y .last .0) (y .result) (y .ensures)
 
 same-length-2 : tie.Need-same-length-2
 same-length-2 c = search needs
@@ -67,7 +67,8 @@ returns-2 c =
     let s = c .before .before .before .before .before .before .before .before .before .before .before .before .before .before .before .before .before .before .before .before .before .args in
     let x = c .before .before .before .before .before .before .before .before .before .before .before .before .before .before .before .before .rst-explicit-markup-block in
     let y = c .before .before .before .before .before .before .before .before .before .rst-explicit-markup-block2 in
-    (c .before .before .anonymous-target .ensures .0 ∙ target-anonymous (s .s .now) (s .scratch .now) _ _ (c .before .before .before .before .before .before .before .before .before .before .before .before .before .before .before .scratch .given) (x .ensures) (c .before .before .before .before .before .before .before .before .before .before .before .before .enum-told .given .1) _ _ (y .ensures) (s .label) _ _ (c .before .before .before .before .before .len2 .given .1), c .before .before .anonymous-target .ensures .1)
+    let z = c .before .before .anonymous-target in
+    target-anonymous (s .s .now) (s .scratch .now) _ _ (c .before .before .before .before .before .before .before .before .before .before .before .before .before .before .before .scratch .given) (x .ensures) (c .before .before .before .before .before .before .before .before .before .before .before .before .enum-told .given .1) _ _ (y .ensures) _ _ (c .before .before .before .before .before .len2 .given .1) (z .last .0) (z .result) (z .ensures)
 
 same-length-3 : tie.Need-same-length-3
 same-length-3 c = search needs
@@ -77,7 +78,7 @@ returns-3 c =
     let s = c .before .before .before .before .before .before .before .before .before .before .before .before .before .before .before .before .args in
     let x = c .before .before .before .before .before .before .before .before .before .before .before .rst-explicit-markup-block in
     let y = c .before .before .before .before .rst-explicit-markup-block2 in
-    (target-none (s .s .now) (s .scratch .now) _ _ (c .before .before .before .before .before .before .before .before .before .before .scratch .given) (x .ensures) (c .before .before .before .before .before .before .before .enum-told .given .1) _ _ (y .ensures) (s .label) (c .enum-told2 .given .1), tt)
+    target-none (s .s .now) (s .scratch .now) _ _ (c .before .before .before .before .before .before .before .before .before .before .scratch .given) (x .ensures) (c .before .before .before .before .before .before .before .enum-told .given .1) _ _ (y .ensures) (c .enum-told2 .given .1)
 
 same-length-4 : tie.Need-same-length-4
 same-length-4 c = search needs
@@ -87,7 +88,7 @@ returns-4 c =
     let s = c .before .before .before .before .before .before .before .before .before .before .before .before .before .before .before .before .args in
     let x = c .before .before .before .before .before .before .before .before .before .before .before .rst-explicit-markup-block in
     let y = c .before .before .before .before .rst-explicit-markup-block2 in
-    (target-no-room₂ (s .s .now) (s .scratch .now) _ _ (c .before .before .before .before .before .before .before .before .before .before .scratch .given) (x .ensures) (c .before .before .before .before .before .before .before .enum-told .given .1) _ _ (y .ensures) (s .label) (c .enum-told3 .given .1), tt)
+    target-no-room₂ (s .s .now) (s .scratch .now) _ _ (c .before .before .before .before .before .before .before .before .before .before .scratch .given) (x .ensures) (c .before .before .before .before .before .before .before .enum-told .given .1) _ _ (y .ensures) (c .enum-told3 .given .1)
 
 same-length-5 : tie.Need-same-length-5
 same-length-5 c = search needs
@@ -95,7 +96,7 @@ same-length-5 c = search needs
 returns-5 : tie.Need-returns-5
 returns-5 c =
     let s = c .before .before .before .before .before .before .before .before .before .args in
-    (target-no-room (s .s .now) (s .scratch .now) _ _ (c .before .before .before .scratch .given) (c .before .before .before .before .rst-explicit-markup-block .ensures) (s .label) (c .enum-told4 .given .1), tt)
+    target-no-room (s .s .now) (s .scratch .now) _ _ (c .before .before .before .scratch .given) (c .before .before .before .before .rst-explicit-markup-block .ensures) (c .enum-told4 .given .1)
 
 pub block-target-spec : {M : Type 1} → statement M
 block-target-spec =
