@@ -10,12 +10,12 @@ use lib.ListN.{length}
 use Rattle.rst_bytes.specs.Escaped.{isStop}
 use Rattle.rst_bytes.specs.Line.{isSpace}
 use Rattle.rst_bytes.specs.Appending.{free, endsInCr, startsSpace}
+use Rattle.restructured_text.proofs.PartLaws.{part-append}
 use Rattle.parse.specs.Links.{linksOf}
 use Rattle.iterator.specs.Collect.{Collection, collected, collectAll}
 use Rattle.iterator.specs.Resolve.{Hyperlink, hyperlinksOf}
 use Rattle.iterator.specs.Document.{Answer, Verdict, verdictOf}
 use Rattle.iterator.specs.Laws.{Standing, Accepted}
-use Rattle.iterator.proofs.AppendingLaws.{part-append}
 use Rattle.iterator.proofs.OrderLaws.{collected-standing}
 use Rattle.iterator.proofs.ReadBackLaws.{standing-end}
 use Rattle.iterator.proofs.AcceptedLaws.{accepted, accepted-held}

@@ -194,7 +194,7 @@ module _ (t w w′ : List ℕ) (c : MarkupLinkCollection) (x : LinkRow) (g : Lab
   counted : (s : List ℕ) → collectionOf s t w′ (g .collection) ≡ withTarget (part (x .text) w) (collectionOf s t w c)
   counted s = target-collection t w w′ (x .text) (c .counters .targets + 1) c g k v u e s
 
-  pub block-within : PairWithin (g .collection .fill) blockRow
+  block-within : PairWithin (g .collection .fill) blockRow
   block-within = (v .within, (omega (arith, v .grows, h .1 .1 .1 .0), h .1 .1 .1 .1))
 
   pub rendered-within : LinkWithin (g .collection .at) (g .collection .fill) renderedRow

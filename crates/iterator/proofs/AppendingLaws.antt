@@ -7,9 +7,9 @@ use mathlib.Core.Path.{_≡_, refl, ap, sym, subst, _∙_}
 use mathlib.Core.List.{List, [], _∷_, _++_, append-nil, append-assoc}
 use mathlib.Core.Bool.{Bool, true, false}
 use lib.Dec.{eqb, ltb}
-use lib.ListN.{length, take, drop, length-drop}
-use lib.Seq.{take-append-le, drop-append-le}
+use lib.ListN.{length}
 use Rattle.rst_bytes.specs.Appending.{Body, Tail}
+use Rattle.restructured_text.proofs.PartLaws.{part-append}
 use Rattle.parse.specs.Link.{Kind, text2dest, text-label2dest, text2label, label2dest, label2label}
 use Rattle.parse.specs.Links.{Placed, linksOf}
 use Rattle.parse.specs.Laws.{Apart, AllBehind}
@@ -62,16 +62,9 @@ use Rattle.iterator.specs.Laws.{
 }
 use Rattle.iterator.proofs.CollectingLaws.{collect-append}
 
--- Links that end within s
+-- Of links that end within s the same is collected with more behind s, since the bytes that they consumed are the same.
 
--- the n bytes from place i on are the same with more behind s
-pub part-append : (s u : List ℕ) (i n : ℕ) → i + n ≤ length s → take n (drop i (s ++ u)) ≡ take n (drop i s)
-part-append s u i n h =
-    let f : i ≤ length s = omega arith in
-    let g : n ≤ length (drop i s) = omega (arith, length-drop i s) in
-    ap (take n) (drop-append-le i s u f) ∙ take-append-le n (drop i s) u g
-
--- so is what is collected of a link
+-- what is collected of a link
 add-append :
     (k : Kind) (render : ℕ) (s u : List ℕ) (p : Placed) (c : Collection) → p .place + p .consumed ≤ length s
     → addOf k render (s ++ u) p c ≡ addOf k render s p c
@@ -296,7 +289,7 @@ from-behind p (drops v) w = from-behind p v (w .1)
 from-behind p (takes e f v) w = (rw e (w .0), from-behind p v (w .1))
 
 -- so they start behind place p where the links do
-pub collect-behind :
+collect-behind :
     (p render : ℕ) (s : List ℕ) (c : Collection) (ps : List Placed) (d : Collection) → AllBehind p ps
     → collectFrom render s c ps ≡ collected d → GrownBehind p c d
 collect-behind p render s c ps d h e =

@@ -5,10 +5,10 @@ use Prim.Native.Nat.{ℕ, zero, suc, _+_, _*_, _<_, _≤_}
 use native.Mathlib.Nat.{zero-add}
 use native.Mathlib.Omega.{arith}
 use mathlib.Core.Path.{_≡_, refl, sym, ap, subst, _∙_}
-use mathlib.Core.Logic.{_⊎_, inl, inr}
+use mathlib.Core.Logic.{_⊎_, inl, inr, ⊎-elim}
 use mathlib.Core.List.{List, [], _∷_, _++_, map}
 use mathlib.Core.Bool.{Bool, true, false, true≢false}
-use lib.ListN.{length}
+use lib.ListN.{length, length-map}
 use borrow.Author.Tests.{lt-ltb, le-ltb}
 use Rattle.rst_bytes.proofs.TestLaws.{lt-or-le}
 use Rattle.parse.specs.Link.{label2dest, label2label}
@@ -20,7 +20,7 @@ use Rattle.iterator.specs.declared.collect.Step.the-variants.{Next, Refu
 use Rattle.iterator.specs.Collect.{Pair, Item, Collection, Collected, collected, refused, andThen, addLink, addDestination, addAlias, withLink, withDestination, withAlias, definitions}
 use Rattle.iterator.specs.Rows.{pairRows, linkRows, pairsOf, itemsOf, pairOf, itemOf, putPair, putLink, destinationsAt, aliasesAt, PairWithin, LinkWithin, PairsWithin, LinksWithin}
 use Rattle.iterator.specs.Inner.{Held, StepHeld, collectionOf, stepOf, oneLink, oneDestination, oneAlias, names, ifRoom, linkAdded, withLinkRow, destinationAdded, withDestinationRow, aliasAdded, withAliasRow, bothAdded, withBothRows}
-use Rattle.iterator.proofs.RowsLaws.{length-put-link, pairs-put, links-put, pairs-pair-after, pairs-pair-before, links-pair-after, pairs-link-before, pairs-within-snoc, links-within-snoc, map-snoc}
+use Rattle.iterator.proofs.RowsLaws.{length-put-link, length-pairs, pairs-put, links-put, pairs-pair-after, pairs-pair-before, links-pair-after, pairs-link-before, pairs-within-snoc, links-within-snoc, map-snoc}
 
 abbrev collection : List Item → List Pair → List Pair → ℕ → ℕ → Collection
 collection x y z m n = record { links = x; label2dest = y; label2label = z; references = m; targets = n }
@@ -31,10 +31,8 @@ unfolding linkRows
 items-length zero a s t w = refl
 items-length (suc n) a s t w = ap suc (items-length n (a + 7) s t w)
 
-pub pairs-length : (n a : ℕ) (t w : List ℕ) → length (pairsOf n a t w) ≡ n
-unfolding pairRows
-pairs-length zero a t w = refl
-pairs-length (suc n) a t w = ap suc (pairs-length n (a + 4) t w)
+pairs-length : (n a : ℕ) (t w : List ℕ) → length (pairsOf n a t w) ≡ n
+pairs-length n a t w = length-map (pairRows n a t) (pairOf w) ∙ length-pairs n a t
 
 -- one more has room, or not
 module _ {A : Type 0} (n : ℕ) (x y : A) where
@@ -83,11 +81,11 @@ module _ (i j : ℕ) (t : List ℕ) (c : MarkupLinkCollection) (x : LinkRow) (k 
   aliases-rows : pairRows (c .label2label) aliasesAt (putLink t (7 * c .links) x) ≡ pairRows (c .label2label) aliasesAt t
   aliases-rows = pairs-link-before (c .label2label) aliasesAt (7 * c .links) t x (omega arith)
 
-  pub link-collection : (s w : List ℕ) → collectionOf s (putLink t (7 * c .links) x) w (oneLink c) ≡ withLink (itemOf s w x) (collectionOf s t w c)
+  link-collection : (s w : List ℕ) → collectionOf s (putLink t (7 * c .links) x) w (oneLink c) ≡ withLink (itemOf s w x) (collectionOf s t w c)
   link-collection s w =
       alike (ap (map (itemOf s w)) links-rows ∙ map-snoc (itemOf s w) (linkRows (c .links) 0 t) x) (ap (map (pairOf w)) destinations-rows) (ap (map (pairOf w)) aliases-rows) refl refl
 
-  pub link-held : LinkWithin (c .at) (c .fill) x → Held i j (putLink t (7 * c .links) x) (oneLink c)
+  link-held : LinkWithin (c .at) (c .fill) x → Held i j (putLink t (7 * c .links) x) (oneLink c)
   link-held h =
       record {
         tables =
@@ -115,11 +113,11 @@ module _ (i j : ℕ) (t : List ℕ) (c : MarkupLinkCollection) (x : PairRow) (k 
   aliases-rows₂ : pairRows (c .label2label) aliasesAt (putPair t (destinationsAt + 4 * c .label2dest) x) ≡ pairRows (c .label2label) aliasesAt t
   aliases-rows₂ = pairs-pair-before (c .label2label) aliasesAt (destinationsAt + 4 * c .label2dest) t x (omega arith)
 
-  pub destination-collection : (s w : List ℕ) → collectionOf s (putPair t (destinationsAt + 4 * c .label2dest) x) w (oneDestination c) ≡ withDestination (pairOf w x) (collectionOf s t w c)
+  destination-collection : (s w : List ℕ) → collectionOf s (putPair t (destinationsAt + 4 * c .label2dest) x) w (oneDestination c) ≡ withDestination (pairOf w x) (collectionOf s t w c)
   destination-collection s w =
       alike (ap (map (itemOf s w)) links-rows₂) (ap (map (pairOf w)) destinations-rows₂ ∙ map-snoc (pairOf w) (pairRows (c .label2dest) destinationsAt t) x) (ap (map (pairOf w)) aliases-rows₂) refl refl
 
-  pub destination-held : PairWithin (c .fill) x → Held i j (putPair t (destinationsAt + 4 * c .label2dest) x) (oneDestination c)
+  destination-held : PairWithin (c .fill) x → Held i j (putPair t (destinationsAt + 4 * c .label2dest) x) (oneDestination c)
   destination-held h =
       record {
         tables =
@@ -147,11 +145,11 @@ module _ (i j : ℕ) (t : List ℕ) (c : MarkupLinkCollection) (x : PairRow) (k 
   aliases-rows₃ : pairRows (c .label2label + 1) aliasesAt (putPair t (aliasesAt + 4 * c .label2label) x) ≡ pairRows (c .label2label) aliasesAt t ++ x ∷ []
   aliases-rows₃ = pairs-put (c .label2label) aliasesAt t x (omega arith)
 
-  pub alias-collection : (s w : List ℕ) → collectionOf s (putPair t (aliasesAt + 4 * c .label2label) x) w (oneAlias c) ≡ withAlias (pairOf w x) (collectionOf s t w c)
+  alias-collection : (s w : List ℕ) → collectionOf s (putPair t (aliasesAt + 4 * c .label2label) x) w (oneAlias c) ≡ withAlias (pairOf w x) (collectionOf s t w c)
   alias-collection s w =
       alike (ap (map (itemOf s w)) links-rows₃) (ap (map (pairOf w)) destinations-rows₃) (ap (map (pairOf w)) aliases-rows₃ ∙ map-snoc (pairOf w) (pairRows (c .label2label) aliasesAt t) x) refl refl
 
-  pub alias-held : PairWithin (c .fill) x → Held i j (putPair t (aliasesAt + 4 * c .label2label) x) (oneAlias c)
+  alias-held : PairWithin (c .fill) x → Held i j (putPair t (aliasesAt + 4 * c .label2label) x) (oneAlias c)
   alias-held h =
       record {
         tables =
@@ -201,33 +199,39 @@ step-by s w t t′ r r′ e f = ap (λ (z : List ℕ). stepOf s z w r) e ∙ ap 
 pub step-held-by : (n : ℕ) (t t′ : List ℕ) (r r′ : Step) → t ≡ t′ → r ≡ r′ → StepHeld n t′ r′ → StepHeld n t r
 step-held-by n t t′ r r′ e f h = subst (λ (z : List ℕ). StepHeld n z r) (sym e) (subst (StepHeld n t′) (sym f) h)
 
+-- A step that has room for one more of n, and is then r with the work numbers t′, or is refused: what it says, and what it keeps, go by
+-- the two cases.
+module _ (n : ℕ) (t t′ : List ℕ) (r : Step) (number : ℕ) where
+  room-step :
+      (s w : List ℕ) (z : Collected) → (n < 256 → stepOf s t′ w r ≡ z) → (256 ≤ n → refused number ≡ z)
+      → stepOf s (ifRoom n t′ t) w (ifRoom n r (Refused number)) ≡ z
+  room-step s w z f g =
+      ⊎-elim
+      (λ h. step-by s w _ _ _ _ (room-some n t′ t h) (room-some n r (Refused number) h) ∙ f h)
+      (λ h. step-by s w _ _ _ _ (room-none n t′ t h) (room-none n r (Refused number) h) ∙ g h)
+      (lt-or-le n 256)
+
+  room-held : (m : ℕ) → (n < 256 → StepHeld m t′ r) → StepHeld m (ifRoom n t′ t) (ifRoom n r (Refused number))
+  room-held m f =
+      ⊎-elim
+      (λ h. step-held-by m _ _ _ _ (room-some n t′ t h) (room-some n r (Refused number) h) (f h))
+      (λ h. step-held-by m _ _ _ _ (room-none n t′ t h) (room-none n r (Refused number) h) tt)
+      (lt-or-le n 256)
+
 -- A link more, or 5.
 module _ (t : List ℕ) (c : MarkupLinkCollection) (x : LinkRow) (l : 4096 ≤ length t) where
   pub link-step :
       (j : ℕ) → Held 1 j t c → (s w : List ℕ)
       → stepOf s (withLinkRow t c x) w (linkAdded c) ≡ addLink (itemOf s w x) (collectionOf s t w c)
-  link-step j k s w = go (lt-or-le (c .links) 256)
-    where
-      n : length (itemsOf (c .links) 0 s t w) ≡ c .links
-      n = items-length (c .links) 0 s t w
-
-      go : (c .links < 256) ⊎ (256 ≤ c .links) → stepOf s (withLinkRow t c x) w (linkAdded c) ≡ addLink (itemOf s w x) (collectionOf s t w c)
-      go (inl h) =
-          step-by s w _ _ _ _ (room-some (c .links) (putLink t (7 * c .links) x) t h) (room-some (c .links) (Next (oneLink c)) (Refused 5) h)
-          ∙ ap collected (link-collection 0 j t c x k h l s w)
-          ∙ sym (add-link-some (collectionOf s t w c) (itemOf s w x) (omega (arith, n)))
-      go (inr h) =
-          step-by s w _ _ _ _ (room-none (c .links) (putLink t (7 * c .links) x) t h) (room-none (c .links) (Next (oneLink c)) (Refused 5) h)
-          ∙ sym (add-link-none (collectionOf s t w c) (itemOf s w x) (omega (arith, n)))
+  link-step j k s w =
+      let n = items-length (c .links) 0 s t w in
+      room-step (c .links) t (putLink t (7 * c .links) x) (Next (oneLink c)) 5 s w _
+      (λ h. ap collected (link-collection 0 j t c x k h l s w) ∙ sym (add-link-some (collectionOf s t w c) (itemOf s w x) (omega (arith, n))))
+      (λ h. sym (add-link-none (collectionOf s t w c) (itemOf s w x) (omega (arith, n))))
 
   pub link-step-held : Held 1 0 t c → LinkWithin (c .at) (c .fill) x → StepHeld (c .at) (withLinkRow t c x) (linkAdded c)
-  link-step-held k v = go (lt-or-le (c .links) 256)
-    where
-      go : (c .links < 256) ⊎ (256 ≤ c .links) → StepHeld (c .at) (withLinkRow t c x) (linkAdded c)
-      go (inl h) =
-          step-held-by (c .at) _ _ _ _ (room-some (c .links) (putLink t (7 * c .links) x) t h) (room-some (c .links) (Next (oneLink c)) (Refused 5) h) (link-held 0 0 t c x k h l v, refl)
-      go (inr h) =
-          step-held-by (c .at) _ _ _ _ (room-none (c .links) (putLink t (7 * c .links) x) t h) (room-none (c .links) (Next (oneLink c)) (Refused 5) h) tt
+  link-step-held k v =
+      room-held (c .links) t (putLink t (7 * c .links) x) (Next (oneLink c)) 5 (c .at) (λ h. (link-held 0 0 t c x k h l v, refl))
 
 -- A name with a destination, or an alias, more, or 6.
 module _ (t : List ℕ) (c : MarkupLinkCollection) (x : PairRow) (l : 4096 ≤ length t) where
@@ -237,48 +241,28 @@ module _ (t : List ℕ) (c : MarkupLinkCollection) (x : PairRow) (l : 4096 ≤ l
   pub destination-step :
       (i : ℕ) → Held i 1 t c → (s w : List ℕ)
       → stepOf s (withDestinationRow t c x) w (destinationAdded c) ≡ addDestination (pairOf w x) (collectionOf s t w c)
-  destination-step i k s w = go (lt-or-le (names c) 256)
-    where
-      go : (names c < 256) ⊎ (256 ≤ names c) → stepOf s (withDestinationRow t c x) w (destinationAdded c) ≡ addDestination (pairOf w x) (collectionOf s t w c)
-      go (inl h) =
-          step-by s w _ _ _ _ (room-some (names c) (putPair t (destinationsAt + 4 * c .label2dest) x) t h) (room-some (names c) (Next (oneDestination c)) (Refused 6) h)
-          ∙ ap collected (destination-collection i 0 t c x k h l s w)
-          ∙ sym (add-destination-some (collectionOf s t w c) (pairOf w x) (omega (arith, defined s w)))
-      go (inr h) =
-          step-by s w _ _ _ _ (room-none (names c) (putPair t (destinationsAt + 4 * c .label2dest) x) t h) (room-none (names c) (Next (oneDestination c)) (Refused 6) h)
-          ∙ sym (add-destination-none (collectionOf s t w c) (pairOf w x) (omega (arith, defined s w)))
+  destination-step i k s w =
+      room-step (names c) t (putPair t (destinationsAt + 4 * c .label2dest) x) (Next (oneDestination c)) 6 s w _
+      (λ h. ap collected (destination-collection i 0 t c x k h l s w) ∙ sym (add-destination-some (collectionOf s t w c) (pairOf w x) (omega (arith, defined s w))))
+      (λ h. sym (add-destination-none (collectionOf s t w c) (pairOf w x) (omega (arith, defined s w))))
 
   pub destination-step-held : Held 0 1 t c → PairWithin (c .fill) x → StepHeld (c .at) (withDestinationRow t c x) (destinationAdded c)
-  destination-step-held k v = go (lt-or-le (names c) 256)
-    where
-      go : (names c < 256) ⊎ (256 ≤ names c) → StepHeld (c .at) (withDestinationRow t c x) (destinationAdded c)
-      go (inl h) =
-          step-held-by (c .at) _ _ _ _ (room-some (names c) (putPair t (destinationsAt + 4 * c .label2dest) x) t h) (room-some (names c) (Next (oneDestination c)) (Refused 6) h) (destination-held 0 0 t c x k h l v, refl)
-      go (inr h) =
-          step-held-by (c .at) _ _ _ _ (room-none (names c) (putPair t (destinationsAt + 4 * c .label2dest) x) t h) (room-none (names c) (Next (oneDestination c)) (Refused 6) h) tt
+  destination-step-held k v =
+      room-held (names c) t (putPair t (destinationsAt + 4 * c .label2dest) x) (Next (oneDestination c)) 6 (c .at)
+      (λ h. (destination-held 0 0 t c x k h l v, refl))
 
   pub alias-step :
       Held 0 1 t c → (s w : List ℕ)
       → stepOf s (withAliasRow t c x) w (aliasAdded c) ≡ addAlias (pairOf w x) (collectionOf s t w c)
-  alias-step k s w = go (lt-or-le (names c) 256)
-    where
-      go : (names c < 256) ⊎ (256 ≤ names c) → stepOf s (withAliasRow t c x) w (aliasAdded c) ≡ addAlias (pairOf w x) (collectionOf s t w c)
-      go (inl h) =
-          step-by s w _ _ _ _ (room-some (names c) (putPair t (aliasesAt + 4 * c .label2label) x) t h) (room-some (names c) (Next (oneAlias c)) (Refused 6) h)
-          ∙ ap collected (alias-collection 0 0 t c x k h l s w)
-          ∙ sym (add-alias-some (collectionOf s t w c) (pairOf w x) (omega (arith, defined s w)))
-      go (inr h) =
-          step-by s w _ _ _ _ (room-none (names c) (putPair t (aliasesAt + 4 * c .label2label) x) t h) (room-none (names c) (Next (oneAlias c)) (Refused 6) h)
-          ∙ sym (add-alias-none (collectionOf s t w c) (pairOf w x) (omega (arith, defined s w)))
+  alias-step k s w =
+      room-step (names c) t (putPair t (aliasesAt + 4 * c .label2label) x) (Next (oneAlias c)) 6 s w _
+      (λ h. ap collected (alias-collection 0 0 t c x k h l s w) ∙ sym (add-alias-some (collectionOf s t w c) (pairOf w x) (omega (arith, defined s w))))
+      (λ h. sym (add-alias-none (collectionOf s t w c) (pairOf w x) (omega (arith, defined s w))))
 
   pub alias-step-held : Held 0 1 t c → PairWithin (c .fill) x → StepHeld (c .at) (withAliasRow t c x) (aliasAdded c)
-  alias-step-held k v = go (lt-or-le (names c) 256)
-    where
-      go : (names c < 256) ⊎ (256 ≤ names c) → StepHeld (c .at) (withAliasRow t c x) (aliasAdded c)
-      go (inl h) =
-          step-held-by (c .at) _ _ _ _ (room-some (names c) (putPair t (aliasesAt + 4 * c .label2label) x) t h) (room-some (names c) (Next (oneAlias c)) (Refused 6) h) (alias-held 0 0 t c x k h l v, refl)
-      go (inr h) =
-          step-held-by (c .at) _ _ _ _ (room-none (names c) (putPair t (aliasesAt + 4 * c .label2label) x) t h) (room-none (names c) (Next (oneAlias c)) (Refused 6) h) tt
+  alias-step-held k v =
+      room-held (names c) t (putPair t (aliasesAt + 4 * c .label2label) x) (Next (oneAlias c)) 6 (c .at)
+      (λ h. (alias-held 0 0 t c x k h l v, refl))
 
 -- A link and then a name with a destination, or 5, or 6.
 module _ (t : List ℕ) (c : MarkupLinkCollection) (x : LinkRow) (y : PairRow) (l : 4096 ≤ length t) where
@@ -289,32 +273,18 @@ module _ (t : List ℕ) (c : MarkupLinkCollection) (x : LinkRow) (y : PairRow) (
       Held 1 1 t c → LinkWithin (c .at) (c .fill) x → (s w : List ℕ)
       → stepOf s (withBothRows t c x y) w (bothAdded c)
       ≡ andThen (addLink (itemOf s w x) (collectionOf s t w c)) (addDestination (pairOf w y))
-  both-step k v s w = go (lt-or-le (c .links) 256)
-    where
-      n : length (itemsOf (c .links) 0 s t w) ≡ c .links
-      n = items-length (c .links) 0 s t w
-
-      go :
-          (c .links < 256) ⊎ (256 ≤ c .links)
-          → stepOf s (withBothRows t c x y) w (bothAdded c)
-          ≡ andThen (addLink (itemOf s w x) (collectionOf s t w c)) (addDestination (pairOf w y))
-      go (inl h) =
-          step-by s w _ _ _ _ (room-some (c .links) (withDestinationRow (putLink t (7 * c .links) x) c y) t h) (room-some (c .links) (destinationAdded (oneLink c)) (Refused 5) h)
-          ∙ destination-step (putLink t (7 * c .links) x) (oneLink c) y longer 0 (link-held 0 1 t c x k h l v) s w
-          ∙ ap (addDestination (pairOf w y)) (link-collection 0 1 t c x k h l s w)
-          ∙ sym (ap (λ (z : Collected). andThen z (addDestination (pairOf w y))) (add-link-some (collectionOf s t w c) (itemOf s w x) (omega (arith, n))))
-      go (inr h) =
-          step-by s w _ _ _ _ (room-none (c .links) (withDestinationRow (putLink t (7 * c .links) x) c y) t h) (room-none (c .links) (destinationAdded (oneLink c)) (Refused 5) h)
-          ∙ sym (ap (λ (z : Collected). andThen z (addDestination (pairOf w y))) (add-link-none (collectionOf s t w c) (itemOf s w x) (omega (arith, n))))
+  both-step k v s w =
+      let n = items-length (c .links) 0 s t w in
+      room-step (c .links) t (withDestinationRow (putLink t (7 * c .links) x) c y) (destinationAdded (oneLink c)) 5 s w _
+      (λ h. destination-step (putLink t (7 * c .links) x) (oneLink c) y longer 0 (link-held 0 1 t c x k h l v) s w
+      ∙ ap (addDestination (pairOf w y)) (link-collection 0 1 t c x k h l s w)
+      ∙ sym (ap (λ (z : Collected). andThen z (addDestination (pairOf w y))) (add-link-some (collectionOf s t w c) (itemOf s w x) (omega (arith, n)))))
+      (λ h. sym (ap (λ (z : Collected). andThen z (addDestination (pairOf w y))) (add-link-none (collectionOf s t w c) (itemOf s w x) (omega (arith, n)))))
 
   pub both-step-held : Held 1 1 t c → LinkWithin (c .at) (c .fill) x → PairWithin (c .fill) y → StepHeld (c .at) (withBothRows t c x y) (bothAdded c)
-  both-step-held k v u = go (lt-or-le (c .links) 256)
-    where
-      go : (c .links < 256) ⊎ (256 ≤ c .links) → StepHeld (c .at) (withBothRows t c x y) (bothAdded c)
-      go (inl h) =
-          step-held-by (c .at) _ _ _ _ (room-some (c .links) (withDestinationRow (putLink t (7 * c .links) x) c y) t h) (room-some (c .links) (destinationAdded (oneLink c)) (Refused 5) h) (destination-step-held (putLink t (7 * c .links) x) (oneLink c) y longer (link-held 0 1 t c x k h l v) u)
-      go (inr h) =
-          step-held-by (c .at) _ _ _ _ (room-none (c .links) (withDestinationRow (putLink t (7 * c .links) x) c y) t h) (room-none (c .links) (destinationAdded (oneLink c)) (Refused 5) h) tt
+  both-step-held k v u =
+      room-held (c .links) t (withDestinationRow (putLink t (7 * c .links) x) c y) (destinationAdded (oneLink c)) 5 (c .at)
+      (λ h. destination-step-held (putLink t (7 * c .links) x) (oneLink c) y longer (link-held 0 1 t c x k h l v) u)
 
 -- what is collected after a step, or else z; and whether there is such
 abbrev nextOf : MarkupLinkCollection → Step → MarkupLinkCollection

@@ -1,7 +1,7 @@
 -- The laws of the document call: what is known of the work areas once a document is collected and once its links are resolved, so that
 -- each call may follow the one before; and what the call returns, by its tests.
 -- Assumes nothing.
-use Prim.Native.Nat.{ℕ, _-_, _<_, _≤_}
+use Prim.Native.Nat.{ℕ, _<_, _≤_}
 use mathlib.Core.Path.{_≡_, sym, ap, ap₂, subst, subst⁻¹, _∙_}
 use mathlib.Core.List.{List, _++_, map}
 use native.Mathlib.Omega.{arith}

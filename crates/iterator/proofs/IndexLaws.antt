@@ -32,7 +32,7 @@ use Rattle.iterator.specs.Index.{
 use Rattle.iterator.specs.Inner.{NamesHeld, Indexable}
 use Rattle.iterator.proofs.RowsLaws.{link-above, pairs-agree, pairs-within-at}
 use Rattle.iterator.proofs.ReachLaws.{same-equal}
-use Rattle.iterator.proofs.WalkLaws.{row-other}
+use Rattle.iterator.proofs.LookupLaws.{row-other}
 
 -- The bucket of the bytes of w from m to end, byte by byte: at place i it is h so far.
 pub record Counting (w : List ℕ) (m end i h : ℕ) : Type 0 where
@@ -121,7 +121,7 @@ latest-own f b m e =
 -- The index
 
 -- no row is in it
-pub index-none : (f : ℕ → ℕ) (t t′ : List ℕ) → Unindexed 256 t t′ → IndexedBy f 0 t′
+index-none : (f : ℕ → ℕ) (t t′ : List ℕ) → Unindexed 256 t t′ → IndexedBy f 0 t′
 index-none f t t′ u =
     record {
       lasts = λ b h. subst (Latest f b 0) (sym (u .empty b h)) (record { before = omega arith; others = λ j g l e. omega arith; its = λ j e. omega arith });

@@ -5,10 +5,11 @@ use Prim.Native.Nat.{ℕ, _+_, _-_, _≤_}
 use native.Mathlib.Omega.{arith}
 use mathlib.Core.Path.{_≡_, refl, sym, ap, _∙_}
 use mathlib.Core.List.{List, _++_}
-use mathlib.Core.Bool.{Bool, true, false}
+use mathlib.Core.Bool.{true, false}
 use lib.ListN.{length, take, length-append}
 use lib.Seq.{take-at}
 use borrow.Rule.Slice.PartMut.{putMid}
+use Rattle.rst_bytes.proofs.TestLaws.{picks-first, picks-second}
 use Rattle.restructured_text.specs.declared.Span.{Span}
 use Rattle.restructured_text.specs.Strings.{part}
 use Rattle.restructured_text.proofs.PartLaws.{put-here, put-before}
@@ -18,13 +19,6 @@ use Rattle.iterator.specs.Collect.{isAnonymous, numbered}
 use Rattle.iterator.specs.Rows.{SpanWithin}
 use Rattle.iterator.specs.Inner.{LabelledBy, Counted}
 use Rattle.iterator.proofs.NamesLaws.{numbered-length}
-
--- what a test picks
-picked : {A : Type 0} (t : Bool) (x y : A) → t ≡ true → x ≡ elim t [ true ↦ x | false ↦ y ]
-picked t x y e = ap (λ (z : Bool). elim z [ true ↦ x | false ↦ y ]) (sym e)
-
-left : {A : Type 0} (t : Bool) (x y : A) → t ≡ false → y ≡ elim t [ true ↦ x | false ↦ y ]
-left t x y e = ap (λ (z : Bool). elim z [ true ↦ x | false ↦ y ]) (sym e)
 
 -- one that is _ : y is what comes back behind the bytes that are taken, r how many of it are written
 module _ (a : Span) (n : ℕ) (c : MarkupLinkCollection) (w : List ℕ) (e : isAnonymous (part a w) ≡ true) where
@@ -50,7 +44,7 @@ module _ (a : Span) (n : ℕ) (c : MarkupLinkCollection) (w : List ℕ) (e : isA
             put-here (c .fill) (length w - c .fill) w y r h (omega (arith, f, ap length g, length-append (numbered n) rest))
             ∙ ap (take r) g
             ∙ take-at (numbered n) rest r (sym f)
-            ∙ picked (isAnonymous (part a w)) (numbered n) (part a w) e;
+            ∙ sym (picks-first (isAnonymous (part a w)) (numbered n) (part a w) e);
         within = (omega arith, omega (arith, f, numbered-length n));
         kept = put-before (c .fill) (length w - c .fill) w y 0 (c .fill) (omega arith) h;
         grows = omega arith;
@@ -64,7 +58,7 @@ module _ (a : Span) (n : ℕ) (c : MarkupLinkCollection) (w : List ℕ) (e : isA
       (before after r : ℕ) → after ≡ before + 1 → r ≡ length (numbered n) → Counted a w before after (c .fill) (c .fill + r)
   numbered-counted before after r f g =
       record {
-        counted = f ∙ picked (isAnonymous (part a w)) (before + 1) before e;
+        counted = f ∙ sym (picks-first (isAnonymous (part a w)) (before + 1) before e);
         few = omega (arith, f);
         filled = omega (arith, f, g, numbered-length n);
         grows = omega (arith, f);
@@ -75,7 +69,7 @@ module _ (a : Span) (n : ℕ) (c : MarkupLinkCollection) (w : List ℕ) (e : isA
   pub same-label : SpanWithin (c .fill) a → LabelledBy a n c w w (record { label = a; collection = c })
   same-label h =
       record {
-        label = left (isAnonymous (part a w)) (numbered n) (part a w) e;
+        label = sym (picks-second (isAnonymous (part a w)) (numbered n) (part a w) e);
         within = h;
         kept = refl;
         grows = omega arith;
@@ -88,7 +82,7 @@ module _ (a : Span) (n : ℕ) (c : MarkupLinkCollection) (w : List ℕ) (e : isA
   pub same-counted : (before : ℕ) → Counted a w before before (c .fill) (c .fill)
   same-counted before =
       record {
-        counted = left (isAnonymous (part a w)) (before + 1) before e;
+        counted = sym (picks-second (isAnonymous (part a w)) (before + 1) before e);
         few = omega arith;
         filled = omega arith;
         grows = omega arith;

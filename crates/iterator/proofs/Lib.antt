@@ -8,6 +8,8 @@ pub mod AddLaws
 pub mod ScannedLaws
 pub mod ReadingLaws
 pub mod ResolveLaws
+pub mod LookupLaws
+pub mod TriedLaws
 pub mod WalkLaws
 pub mod RecordLaws
 pub mod IndexLaws
@@ -20,4 +22,4 @@ pub mod OnceLaws
 pub mod OrderLaws
 pub mod DocumentLaws
 pub mod AcceptedLaws
-mod CasesHold
+pub mod CasesHold

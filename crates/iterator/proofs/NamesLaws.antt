@@ -7,17 +7,14 @@ use mathlib.Core.Bool.{Bool, true, false, _&&_, and-true, and-false, and-assoc}
 use native.Mathlib.Nat.{zero-add}
 use native.Mathlib.Omega.{arith}
 use lib.Dec.{eqb, ltb}
-use lib.ListN.{length, getD, take, drop, set, length-drop}
-use lib.Seq.{drop-cons, length-take-le, sets, sets-eq}
+use lib.ListN.{length, getD, take, drop, set}
+use lib.Seq.{drop-cons, sets, sets-eq}
 use borrow.Author.Tests.{eq-eqb, ne-eqb, lt-ltb, le-ltb}
 use Rattle.restructured_text.specs.declared.Span.{Span}
 use Rattle.restructured_text.specs.Strings.{part}
+use Rattle.restructured_text.proofs.PartLaws.{part-length}
 use Rattle.iterator.specs.Collect.{digit, decimal, numbered, isAnonymous}
 use Rattle.iterator.specs.Resolve.{same}
-
--- a part is as long as it says
-pub length-part : (a : Span) (w : List ℕ) → a .start + a .len ≤ length w → length (part a w) ≡ a .len
-length-part a w h = length-take-le (a .len) (drop (a .start) w) (omega (arith, length-drop (a .start) w))
 
 -- Anonymous names
 
@@ -37,7 +34,7 @@ anonymous-one a w h e = rw (e, drop-cons w (a .start) 0 (omega arith))
 -- no other is
 pub anonymous-other :
     (a : Span) (w : List ℕ) → a .start + a .len ≤ length w → (a .len ≡ 1 → ⊥) → false ≡ isAnonymous (part a w)
-anonymous-other a w h g = anonymous-length (part a w) (λ e. g (sym (length-part a w h) ∙ e))
+anonymous-other a w h g = anonymous-length (part a w) (λ e. g (sym (part-length (a .start) (a .len) w h) ∙ e))
 
 -- Numbered names
 
@@ -125,7 +122,7 @@ module _ (a b : Span) (w : List ℕ) where
   -- those of two lengths are not the same
   pub part-lengths :
       a .start + a .len ≤ length w → b .start + b .len ≤ length w → (a .len ≡ b .len → ⊥) → false ≡ same (part a w) (part b w)
-  part-lengths h g e = same-lengths (part a w) (part b w) (λ d. e (sym (length-part a w h) ∙ d ∙ length-part b w g))
+  part-lengths h g e = same-lengths (part a w) (part b w) (λ d. e (sym (part-length (a .start) (a .len) w h) ∙ d ∙ part-length (b .start) (b .len) w g))
 
   -- those of one length, as many bytes from the start of each
   pub part-same :

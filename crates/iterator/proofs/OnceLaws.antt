@@ -165,7 +165,7 @@ unique aliases stored o {name} {d} {e} (follows {target = t} m r) (follows {targ
     unique aliases stored o r (rw f q)
 
 -- With more names and aliases it reaches what it reached.
-pub reaches-grows :
+reaches-grows :
     (aliases stored zs ys : List Pair) → once ((stored ++ ys) ++ (aliases ++ zs)) ≡ true → {name d : List ℕ}
     → Reaches aliases stored name d → Reaches (aliases ++ zs) (stored ++ ys) name d
 reaches-grows aliases stored zs ys o {name} {d} (stands e) =

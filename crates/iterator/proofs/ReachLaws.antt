@@ -211,22 +211,6 @@ split-from (suc n) aliases stored x m =
         more : List Pair
         more = stored ++ pair k d ∷ []
 
--- what is left over are aliases
-over-from :
-    (n : ℕ) (aliases stored : List Pair) (x : Pair) → List·Memᴰ x (leftFrom n aliases stored) → List·Memᴰ x aliases
-unfolding leftFrom
-over-from zero aliases stored x m = m
-over-from (suc n) aliases stored x m =
-    go (search stored [] aliases) (searched stored aliases []) m (λ l s. over-from n l s x)
-  where
-    go :
-        (z : Search) → Result stored [] aliases z
-        → List·Memᴰ x (elim z [ hit k d left ↦ leftFrom n left (stored ++ pair k d ∷ []) | missed ↦ aliases ])
-        → ((l s : List Pair) → List·Memᴰ x (leftFrom n l s) → List·Memᴰ x l) → List·Memᴰ x aliases
-    go (hit k d left) w i ih =
-        rw (w .3) (left-among (w .0) (w .2) (pair k (w .1)) x (rw (w .4) at (ih left (stored ++ pair k d ∷ []) i)))
-    go missed w i ih = i
-
 -- of n or fewer aliases, no target of one that is left over has a destination
 left-from :
     (n : ℕ) (aliases stored : List Pair) → length aliases ≤ n → (x : Pair) → List·Memᴰ x (leftFrom n aliases stored)
@@ -253,25 +237,21 @@ left-from (suc n) aliases stored h x m =
 -- All aliases
 module _ (aliases stored : List Pair) where
   -- a name that has a destination before has one after
-  pub resolve-keeps : (name : List ℕ) → Has name stored → Has name (resolveAliases aliases stored)
+  resolve-keeps : (name : List ℕ) → Has name stored → Has name (resolveAliases aliases stored)
   resolve-keeps name h = kept-from (length aliases) aliases stored name h
-
-  -- what is left over are aliases
-  pub left-alias : (x : Pair) → List·Memᴰ x (leftOver aliases stored) → List·Memᴰ x aliases
-  left-alias x m = over-from (length aliases) aliases stored x m
 
   -- every alias left over targets a name without a destination
   pub left-over : (x : Pair) → List·Memᴰ x (leftOver aliases stored) → lookup (x .to) (resolveAliases aliases stored) ≡ none
   left-over x m = left-from (length aliases) aliases stored (omega arith) x m
 
   -- an alias is left over, or its name has a destination
-  pub left-or-stored :
+  left-or-stored :
       (x : Pair) → List·Memᴰ x aliases
       → List·Memᴰ x (leftOver aliases stored) ⊎ Has (x .name) (resolveAliases aliases stored)
   left-or-stored x m = split-from (length aliases) aliases stored x m
 
   -- an alias whose target has a destination has one
-  pub resolve-follows :
+  resolve-follows :
       (name target : List ℕ) → List·Memᴰ (pair name target) aliases → Has target (resolveAliases aliases stored)
       → Has name (resolveAliases aliases stored)
   resolve-follows name target m h =

@@ -97,7 +97,7 @@ module _ (s t w : List ℕ) (c : MarkupLinkCollection) (k : Held 0 0 t c) (h : c
   filled = omega (arith, k .filled, k .inside, k .references-few, k .targets-few, k .tables .links-few, k .tables .names-few)
 
   -- what is collected, with what the scanner left behind it
-  pub scanned-kept : (y : List ℕ) → collectionOf s t (putMid (c .fill) (length w - c .fill) w y) c ≡ collectionOf s t w c
+  scanned-kept : (y : List ℕ) → collectionOf s t (putMid (c .fill) (length w - c .fill) w y) c ≡ collectionOf s t w c
   scanned-kept y =
       let e = put-before (c .fill) (length w - c .fill) w y 0 (c .fill) (omega arith) (omega (arith, filled, q .1)) in
       alike

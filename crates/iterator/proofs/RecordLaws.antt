@@ -4,14 +4,13 @@
 use Prim.Native.Nat.{ℕ, zero, suc, _+_, _-_, _*_, _<_, _≤_}
 use mathlib.Core.Path.{_≡_, refl, sym, ap, ap₂, _∙_}
 use mathlib.Core.List.{List, [], _∷_, _++_, map, append-assoc, append-nil}
-use mathlib.Core.Bool.{Bool, true, false}
 use native.Mathlib.Omega.{arith}
 use lib.Dec.{eqb}
 use lib.ListN.{length, take, drop, length-append, length-drop, drop-of-length-le}
 use lib.Seq.{length-take-le, take-all, take-length, take-at, drop-at, drop-drop, take-add}
 use borrow.Author.Tests.{eq-eqb, ne-eqb, eqb-true, eqb-false}
 use borrow.Rule.Slice.PartMut.{midOf, putMid}
-use Rattle.rst_bytes.proofs.TestLaws.{by-test}
+use Rattle.rst_bytes.proofs.TestLaws.{picks-first, picks-second, by-test}
 use Rattle.restructured_text.specs.declared.Span.{Span}
 use Rattle.restructured_text.specs.Strings.{part}
 use Rattle.restructured_text.proofs.PartLaws.{part-length}
@@ -34,14 +33,7 @@ use Rattle.iterator.specs.Rows.{
   LinksWithin,
 }
 use Rattle.iterator.specs.Inner.{Writable, Writing, Fields, sizeOf, InOrder, written}
-
--- what a test picks
-module _ {ℓ} {A : Type ℓ} where
-  pub picks-first : (t : Bool) (x y : A) → t ≡ true → elim t [ true ↦ x | false ↦ y ] ≡ x
-  picks-first t x y e = rw e
-
-  pub picks-second : (t : Bool) (x y : A) → t ≡ false → elim t [ true ↦ x | false ↦ y ] ≡ y
-  picks-second t x y e = rw e
+use Rattle.iterator.proofs.RowsLaws.{links-next}
 
 -- a part as the code lends it, from its start to its end
 pub part-lent : (a : Span) (w : List ℕ) → take (a .start + a .len - a .start) (drop (a .start) w) ≡ part a w
@@ -84,14 +76,14 @@ module _ (s w : List ℕ) (x : LinkRow) where
 
 -- where it stands
 module _ (m n : ℕ) (x : LinkRow) where
-  pub within-rendered : x .kind ≡ rendered → TextWithin m n x → SpanWithin m (x .text)
+  within-rendered : x .kind ≡ rendered → TextWithin m n x → SpanWithin m (x .text)
   within-rendered e h = rw (picks-first (eqb (x .kind) rendered) (SpanWithin m (x .text)) (SpanWithin n (x .text)) (eq-eqb (x .kind) rendered e)) at h
 
   pub within-plain : (x .kind ≡ rendered → ⊥) → TextWithin m n x → SpanWithin n (x .text)
   within-plain ne h = rw (picks-second (eqb (x .kind) rendered) (SpanWithin m (x .text)) (SpanWithin n (x .text)) (ne-eqb (x .kind) rendered ne)) at h
 
 -- no longer than a document
-pub plain-le : (w : List ℕ) (x : LinkRow) → SpanWithin room (x .text) → SpanWithin room (x .goal) → room ≤ length w → length (plainText w x) ≤ 16384
+plain-le : (w : List ℕ) (x : LinkRow) → SpanWithin room (x .text) → SpanWithin room (x .goal) → room ≤ length w → length (plainText w x) ≤ 16384
 plain-le w x h k g =
     let t : length (part (x .text) w) ≤ 16384 = omega (arith, part-length (x .text .start) (x .text .len) w (omega arith)) in
     let d : length (part (x .goal) w) ≤ 16384 = omega (arith, part-length (x .goal .start) (x .goal .len) w (omega arith)) in
@@ -118,7 +110,7 @@ module _ (s w : List ℕ) (x : LinkRow) (h : Writable s w x) where
       (λ e. plain-le w x (plain-within (eqb-false _ _ e)) (h .1 .1 .1 .1) (h .1 .0))
 
   -- so the fields fit into 15 bits
-  pub fields-fit : (n : ℕ) → Fields (x .place - n) (x .consumed) (length (textOf s w x)) (length (part (x .goal) w))
+  fields-fit : (n : ℕ) → Fields (x .place - n) (x .consumed) (length (textOf s w x)) (length (part (x .goal) w))
   fields-fit n = (omega arith, (omega arith, (omega (arith, text-le), omega (arith, goal-length))))
 
 -- How long records are
@@ -145,7 +137,7 @@ size-few (suc n) a s t w short roomy h =
 
 -- One more string is written behind those that are written: p are the first n bytes of the output, and the others are as they were.
 module _ (n : ℕ) (p x o out y : List ℕ) where
-  pub appended :
+  appended :
       length p ≡ n → n + length x ≤ length o → out ≡ p ++ drop n o → y ≡ x ++ drop (length x) (midOf n (length out - n) out)
       → putMid n (length out - n) out y ≡ p ++ x ++ drop (n + length x) o
   appended l fits e f =
@@ -186,16 +178,6 @@ module _ (s w : List ℕ) (x : LinkRow) (h : Writable s w x) (n : ℕ) (text des
   record-written o′ r e f =
       let l : r ≡ length (recordOf n (hyperlinkOf s w x)) = omega (arith, ap length et, ap length ed, record-length n (hyperlinkOf s w x)) in
       (rw (← f, et, ed) at e, l)
-
--- the i-th row of n, and those after it
-pub rows-next :
-    (n i : ℕ) (t : List ℕ) → i < n
-    → linkRows (n - i) (7 * i) t ≡ linkAt t (7 * i) ∷ linkRows (n - (i + 1)) (7 * (i + 1)) t
-unfolding linkRows
-rows-next n i t h =
-    let e : n - i ≡ suc (n - (i + 1)) = omega arith in
-    let f : 7 * i + 7 ≡ 7 * (i + 1) = omega arith in
-    rw e (ap (λ (a : ℕ). linkAt t (7 * i) ∷ linkRows (n - (i + 1)) a t) f)
 
 -- the records of n links
 abbrev pub recordsIn : ℕ → List ℕ → List ℕ → List ℕ → List ℕ
@@ -253,22 +235,19 @@ module _ (n : ℕ) (s t w o₀ o : List ℕ) (i end at : ℕ) (v : Emitted n s t
 
   -- The next link, of row x
   module _ (x : LinkRow) (ex : x ≡ linkAt t (7 * i)) (more : i < n) where
-    rows : linkRows (n - i) (7 * i) t ≡ x ∷ linkRows (n - (i + 1)) (7 * (i + 1)) t
-    rows = rows-next n i t more ∙ ap (λ (y : LinkRow). y ∷ linkRows (n - (i + 1)) (7 * (i + 1)) t) (sym ex)
-
     next :
         drop at (recordsIn n s t w)
         ≡ recordOf end (hyperlinkOf s w x) ++ recordsFrom (x .place + x .consumed) (map (hyperlinkOf s w) (linkRows (n - (i + 1)) (7 * (i + 1)) t))
     unfolding recordsFrom
-    next = v .ahead ∙ ap (λ (r : List LinkRow). recordsFrom end (map (hyperlinkOf s w) r)) rows
+    next = v .ahead ∙ ap (λ (r : List LinkRow). recordsFrom end (map (hyperlinkOf s w) r)) (links-next n i t x ex more)
 
     pub emit-within : LinkWithin (length s) room x × LinksWithin (length s) room (linkRows (n - (i + 1)) (7 * (i + 1)) t)
     unfolding LinksWithin
-    emit-within = rw rows at (v .within)
+    emit-within = rw (links-next n i t x ex more) at (v .within)
 
     pub emit-order : (end ≤ x .place) × InOrder (x .place + x .consumed) (map (hyperlinkOf s w) (linkRows (n - (i + 1)) (7 * (i + 1)) t))
     unfolding InOrder
-    emit-order = rw rows at (v .order)
+    emit-order = rw (links-next n i t x ex more) at (v .order)
 
     -- there is room for its record
     pub room-left : at + length (recordOf end (hyperlinkOf s w x)) ≤ length (recordsIn n s t w)

@@ -9,6 +9,7 @@ use lib.Dec.{eqb}
 use lib.ListN.{length}
 use lib.Seq.{append-snoc}
 use borrow.Author.Tests.{eq-eqb, ne-eqb}
+use Rattle.rst_bytes.proofs.TestLaws.{picks-first, picks-second}
 use Rattle.restructured_text.specs.declared.Span.{Span}
 use Rattle.restructured_text.specs.Strings.{part}
 use Rattle.iterator.specs.declared.rows.LinkRow.{LinkRow}
@@ -52,6 +53,7 @@ use Rattle.iterator.specs.Inner.{
 }
 use Rattle.iterator.proofs.RowsLaws.{
   links-agree,
+  links-next,
   pairs-agree,
   links-put,
   links-link-before,
@@ -62,7 +64,7 @@ use Rattle.iterator.proofs.RowsLaws.{
   map-snoc,
 }
 use Rattle.iterator.proofs.IndexLaws.{index-put, names-kept}
-use Rattle.iterator.proofs.RecordLaws.{picks-first, picks-second, plain-other, within-plain, text-le, goal-length, rows-next, size-few}
+use Rattle.iterator.proofs.RecordLaws.{plain-other, within-plain, text-le, goal-length, size-few}
 
 -- the row of a reference that is resolved: its goal is a destination
 abbrev pub resolvedRow : LinkRow → Span → LinkRow
@@ -89,7 +91,7 @@ module _ (stored : List Pair) (s w : List ℕ) (x : LinkRow) (rest : List Item) 
   item-direct : (x .kind ≡ reference → ⊥) → itemOf s w x ≡ directItem s w x
   item-direct ne = picks-second (eqb (x .kind) reference) (referenceItem w x) (directItem s w x) (ne-eqb (x .kind) reference ne)
 
-  pub next-direct :
+  next-direct :
       (x .kind ≡ reference → ⊥)
       → resolveReferences stored (itemOf s w x ∷ rest) ≡ hyperlinkOf s w x ∷ resolveReferences stored rest
   unfolding resolveReferences
@@ -97,7 +99,7 @@ module _ (stored : List Pair) (s w : List ℕ) (x : LinkRow) (rest : List Item) 
       ap (λ (y : Item). resolveReferences stored (y ∷ rest)) (item-direct ne)
       ∙ ap (λ (text : List ℕ). record { place = x .place; consumed = x .consumed; text = elim (eqb (x .kind) rendered) [ true ↦ part (x .text) s | false ↦ text ]; dest = part (x .goal) w } ∷ resolveReferences stored rest) (plain-other w x ne)
 
-  pub next-found :
+  next-found :
       (goal : Span) → x .kind ≡ reference → lookup (part (x .goal) w) stored ≡ has (part goal w)
       → resolveReferences stored (itemOf s w x ∷ rest) ≡ hyperlinkOf s w (resolvedRow x goal) ∷ resolveReferences stored rest
   unfolding resolveReferences
@@ -105,7 +107,7 @@ module _ (stored : List Pair) (s w : List ℕ) (x : LinkRow) (rest : List Item) 
       ap (λ (y : Item). resolveReferences stored (y ∷ rest)) (item-reference e)
       ∙ ap (λ (d : Destination). resolvedBy (referenceItem w x) d (resolveReferences stored rest)) f
 
-  pub next-none :
+  next-none :
       x .kind ≡ reference → lookup (part (x .goal) w) stored ≡ none
       → resolveReferences stored (itemOf s w x ∷ rest) ≡ resolveReferences stored rest
   unfolding resolveReferences
@@ -140,12 +142,9 @@ module _ (n i destinations : ℕ) (s t w : List ℕ) (r : Resolved) (v : Resolvi
 
   -- The next row is x.
   module _ (x : LinkRow) (ex : x ≡ linkAt t (7 * i)) (more : i < n) where
-    rows : linkRows (n - i) (7 * i) t ≡ x ∷ linkRows (n - (i + 1)) (7 * (i + 1)) t
-    rows = rows-next n i t more ∙ ap (λ (y : LinkRow). y ∷ linkRows (n - (i + 1)) (7 * (i + 1)) t) (sym ex)
-
     rows-within : LinkWithin (length s) room x × LinksWithin (length s) room (linkRows (n - (i + 1)) (7 * (i + 1)) t)
     unfolding LinksWithin
-    rows-within = rw rows at (v .ahead-within)
+    rows-within = rw (links-next n i t x ex more) at (v .ahead-within)
 
     row-within : LinkWithin (length s) room x
     row-within = rows-within .0
@@ -159,7 +158,7 @@ module _ (n i destinations : ℕ) (s t w : List ℕ) (r : Resolved) (v : Resolvi
     can-look = ((v .roomy, (v .destinations-few, v .destinations-within)), (row-within .1 .1, v .indexed))
 
     items : itemsOf (n - i) (7 * i) s t w ≡ itemOf s w x ∷ itemsOf (n - (i + 1)) (7 * (i + 1)) s t w
-    items = ap (map (itemOf s w)) rows
+    items = ap (map (itemOf s w)) (links-next n i t x ex more)
 
     -- it is dropped
     dropped-held : Resolving n (i + 1) destinations s t w r

@@ -1,7 +1,7 @@
 -- The laws of specs/Rows.antt: a row that is put at a place stands there, and the numbers before and behind it stay; so tables grow by a
 -- row, and a row put beside a table leaves it. What rows say stays while the bytes that their strings stand in do.
 -- Assumes nothing.
-use Prim.Native.Nat.{ℕ, zero, suc, _+_, _*_, _<_, _≤_}
+use Prim.Native.Nat.{ℕ, zero, suc, _+_, _-_, _*_, _<_, _≤_}
 use mathlib.Core.Path.{_≡_, refl, sym, ap, subst, _∙_}
 use mathlib.Core.List.{List, [], _∷_, _++_, map, map-append}
 use mathlib.Core.Bool.{Bool, true, false, true≢false}
@@ -74,13 +74,13 @@ module _ (t : List ℕ) (n : ℕ) (x : PairRow) where
   pub length-put-pair : length (putPair t n x) ≡ length t
   length-put-pair = ap length pair-sets ∙ length-sets t n (pairNumbers x)
 
-  pub pair-below : (k : ℕ) → k < n → getD (putPair t n x) k 0 ≡ getD t k 0
+  pair-below : (k : ℕ) → k < n → getD (putPair t n x) k 0 ≡ getD t k 0
   pair-below k h = ap (λ (l : List ℕ). getD l k 0) pair-sets ∙ sets-below (pairNumbers x) t n k h
 
-  pub pair-above : (k : ℕ) → n + 4 ≤ k → getD (putPair t n x) k 0 ≡ getD t k 0
+  pair-above : (k : ℕ) → n + 4 ≤ k → getD (putPair t n x) k 0 ≡ getD t k 0
   pair-above k h = ap (λ (l : List ℕ). getD l k 0) pair-sets ∙ sets-above (pairNumbers x) t n k h
 
-  pub pair-here : n + 4 ≤ length t → pairAt (putPair t n x) n ≡ x
+  pair-here : n + 4 ≤ length t → pairAt (putPair t n x) n ≡ x
   pair-here h = λ i. record {
     name = record { start = number 0 n (omega arith) (omega arith) i; len = number 1 (n + 1) (omega arith) (omega arith) i };
     to = record { start = number 2 (n + 2) (omega arith) (omega arith) i; len = number 3 (n + 2 + 1) (omega arith) (omega arith) i };
@@ -112,13 +112,13 @@ module _ (t : List ℕ) (n : ℕ) (x : LinkRow) where
   pub length-put-link : length (putLink t n x) ≡ length t
   length-put-link = ap length link-sets ∙ length-sets t n (linkNumbers x)
 
-  pub link-below : (k : ℕ) → k < n → getD (putLink t n x) k 0 ≡ getD t k 0
+  link-below : (k : ℕ) → k < n → getD (putLink t n x) k 0 ≡ getD t k 0
   link-below k h = ap (λ (l : List ℕ). getD l k 0) link-sets ∙ sets-below (linkNumbers x) t n k h
 
   pub link-above : (k : ℕ) → n + 7 ≤ k → getD (putLink t n x) k 0 ≡ getD t k 0
   link-above k h = ap (λ (l : List ℕ). getD l k 0) link-sets ∙ sets-above (linkNumbers x) t n k h
 
-  pub link-here : n + 7 ≤ length t → linkAt (putLink t n x) n ≡ x
+  link-here : n + 7 ≤ length t → linkAt (putLink t n x) n ≡ x
   link-here h = λ i. record {
     place = number 0 n (omega arith) (omega arith) i;
     consumed = number 1 (n + 1) (omega arith) (omega arith) i;
@@ -191,6 +191,12 @@ pairs-agree (suc n) a t t′ h = λ i.
     pair-agrees a t t′ (λ k g l. h k g (omega arith)) i
     ∷ pairs-agree n (a + 4) t t′ (λ k g l. h k (omega arith) (omega arith)) i
 
+-- a table has as many rows as it says
+pub length-pairs : (n a : ℕ) (t : List ℕ) → length (pairRows n a t) ≡ n
+unfolding pairRows
+length-pairs zero a t = refl
+length-pairs (suc n) a t = ap suc (length-pairs n (a + 4) t)
+
 -- one row more
 pub pairs-snoc : (n a : ℕ) (t : List ℕ) → pairRows (n + 1) a t ≡ pairRows n a t ++ pairAt t (a + 4 * n) ∷ []
 unfolding pairRows
@@ -222,8 +228,18 @@ links-agree (suc n) a t t′ h = λ i.
     link-agrees a t t′ (λ k g l. h k g (omega arith)) i
     ∷ links-agree n (a + 7) t t′ (λ k g l. h k (omega arith) (omega arith)) i
 
+-- the i-th row of n, and those after it
+pub links-next :
+    (n i : ℕ) (t : List ℕ) (x : LinkRow) → x ≡ linkAt t (7 * i) → i < n
+    → linkRows (n - i) (7 * i) t ≡ x ∷ linkRows (n - (i + 1)) (7 * (i + 1)) t
+unfolding linkRows
+links-next n i t x e h =
+    let f : n - i ≡ suc (n - (i + 1)) = omega arith in
+    let g : 7 * i + 7 ≡ 7 * (i + 1) = omega arith in
+    rw f (λ j. sym e j ∷ linkRows (n - (i + 1)) (g j) t)
+
 -- one row more
-pub links-snoc : (n a : ℕ) (t : List ℕ) → linkRows (n + 1) a t ≡ linkRows n a t ++ linkAt t (a + 7 * n) ∷ []
+links-snoc : (n a : ℕ) (t : List ℕ) → linkRows (n + 1) a t ≡ linkRows n a t ++ linkAt t (a + 7 * n) ∷ []
 unfolding linkRows
 links-snoc zero a t = let e : a + 0 ≡ a = omega arith in ap (λ (k : ℕ). linkAt t k ∷ []) (sym e)
 links-snoc (suc n) a t =
@@ -277,7 +293,7 @@ links-within-snoc m n (y ∷ rows) x w v = (w .0, links-within-snoc m n rows x (
 span-within-wider : (m n : ℕ) (a : Span) → m ≤ n → SpanWithin m a → SpanWithin n a
 span-within-wider m n a h w = (omega (arith, w .0), w .1)
 
-pub pair-within-wider : (m n : ℕ) (x : PairRow) → m ≤ n → PairWithin m x → PairWithin n x
+pair-within-wider : (m n : ℕ) (x : PairRow) → m ≤ n → PairWithin m x → PairWithin n x
 pair-within-wider m n x h w = (span-within-wider m n (x .name) h (w .0), span-within-wider m n (x .to) h (w .1))
 
 pub pairs-within-wider : (m n : ℕ) (rows : List PairRow) → m ≤ n → PairsWithin m rows → PairsWithin n rows
@@ -289,7 +305,7 @@ pairs-within-wider m n (x ∷ rows) h w = (pair-within-wider m n x h (w .0), pai
 abbrev TextBy : Bool → ℕ → ℕ → Span → Type 0
 TextBy r m n a = elim r [ true ↦ SpanWithin m a | false ↦ SpanWithin n a ]
 
-pub link-within-wider : (m m′ n n′ : ℕ) (x : LinkRow) → m ≤ m′ → n ≤ n′ → LinkWithin m n x → LinkWithin m′ n′ x
+link-within-wider : (m m′ n n′ : ℕ) (x : LinkRow) → m ≤ m′ → n ≤ n′ → LinkWithin m n x → LinkWithin m′ n′ x
 link-within-wider m m′ n n′ x h g w =
     (omega (arith, w .0), (text (eqb (x .kind) rendered) (w .1 .0), span-within-wider n n′ (x .goal) g (w .1 .1)))
   where
@@ -316,17 +332,6 @@ pairs-within-at bound (suc n) a (suc i) t h w =
     let e : a + 4 + 4 * i ≡ a + 4 * suc i = omega arith in
     subst (λ (k : ℕ). PairWithin bound (pairAt t k)) e (pairs-within-at bound n (a + 4) i t (omega arith) (w .1))
 
-pub links-within-at :
-    (m bound n a i : ℕ) (t : List ℕ) → i < n → LinksWithin m bound (linkRows n a t) → LinkWithin m bound (linkAt t (a + 7 * i))
-unfolding LinksWithin linkRows
-links-within-at m bound zero a i t h w = absurd (not-suc-le-zero h)
-links-within-at m bound (suc n) a zero t h w =
-    let e : a + 0 ≡ a = omega arith in
-    subst (λ (k : ℕ). LinkWithin m bound (linkAt t k)) (sym e) (w .0)
-links-within-at m bound (suc n) a (suc i) t h w =
-    let e : a + 7 + 7 * i ≡ a + 7 * suc i = omega arith in
-    subst (λ (k : ℕ). LinkWithin m bound (linkAt t k)) e (links-within-at m bound n (a + 7) i t (omega arith) (w .1))
-
 -- What rows say
 
 -- The strings in the first bytes stay while those bytes do.
@@ -347,7 +352,7 @@ pairs-kept fill (x ∷ rows) w w′ v e = λ i.
     ∷ pairs-kept fill rows w w′ (v .1) e i
 
 -- no row is of two kinds
-pub not-rendered : (n : ℕ) → eqb n reference ≡ true → eqb n rendered ≡ false
+not-rendered : (n : ℕ) → eqb n reference ≡ true → eqb n rendered ≡ false
 not-rendered n e = ap (λ (k : ℕ). eqb k rendered) (eqb-true n reference e)
 
 -- a link, by whether its row is a reference and whether it is a rendered block
@@ -364,7 +369,7 @@ itemBy r d s w x =
           }
     ]
 
-pub item-kept :
+item-kept :
     (m fill : ℕ) (x : LinkRow) (s w w′ : List ℕ) → LinkWithin m fill x → take fill w′ ≡ take fill w
     → itemOf s w′ x ≡ itemOf s w x
 item-kept m fill x s w w′ v e = go (eqb (x .kind) reference) (eqb (x .kind) rendered) (not-rendered (x .kind)) (v .1 .0)

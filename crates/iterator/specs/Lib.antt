@@ -25,9 +25,9 @@
 --                      a name that ends with a destination reaches it; complete: a name that reaches one ends with one; left-over:
 --                      the target of an alias that is left over has none. OnceLaws unique: a name reaches one only, where no name is
 --                      defined twice; resolved-grows: then more names and aliases leave what was resolved as it was
+--   computing          CasesHold outcomes: to unfold it is to unfold all that computing a document's answer goes through
 --   appending          on s ++ 10 ∷ t, for `Tail t` and `Body s`: AppendingLaws collect-lf, collected-lf: the document collects what s
---                      does and then what the links past the LF add; part-append: bytes within s are the same with more behind it.
---                      What that says of two calls is the crate `appending`.
+--                      does and then what the links past the LF add. What that says of two calls is the crate `appending`.
 pub mod Collect
 pub mod Resolve
 pub mod Records

@@ -29,7 +29,7 @@ use Rattle.parse.proofs.ScanLaws.{split, opening-le, block-inside, eith
 use Rattle.parse.proofs.LinksLaws.{linksIn, links-skip, links-apart}
 
 -- so it is for reStructuredText
-pub rst-keeping : (t : List ℕ) → Tail t → Keeping t rst
+rst-keeping : (t : List ℕ) → Tail t → Keeping t rst
 rst-keeping t h = (
   (λ s b. label2label-lf s t h b, (λ s b. label2dest-lf s t h b, tt)),
   (λ s b. text2dest-lf s t h, (λ s b. text-label2dest-lf s t h, tt)),

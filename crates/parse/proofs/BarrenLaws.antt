@@ -122,12 +122,12 @@ module _ (l : List ℕ) (n k : ℕ) (e : taking 0x60 0x3C false 0 l ≡ Taken n)
       (getD-drop (suc k) l (n - suc k) 0 ∙ ap (λ (j : ℕ). getD l j 0) z ∙ i) (o′ .1) (o′ .2) (o′ .3)
 
 -- no < stands before the close
-pub barren-unbracketed : (s : List ℕ) (n : ℕ) → taking 0x60 0x3C false 0 s ≡ Taken n → n < length s → getD s n 0 ≡ 0x60 → Barren 0 n s
+barren-unbracketed : (s : List ℕ) (n : ℕ) → taking 0x60 0x3C false 0 s ≡ Taken n → n < length s → getD s n 0 ≡ 0x60 → Barren 0 n s
 barren-unbracketed s n e h f i k l g =
     ap (tried (rst .embedded)) (at-tick s i (omega arith) g) ∙ unlinked (0x60 ∷ drop (suc i) s) (tick-unbracketed s n i e l g h f)
 
 -- two do
-pub barren-opened : (s : List ℕ) (n : ℕ) → taking 0x60 0x3C false 0 s ≡ Taken n → n < length s → getD s n 0 ≡ 0x3C → Opened (drop (n + 1) s) → Barren 0 n s
+barren-opened : (s : List ℕ) (n : ℕ) → taking 0x60 0x3C false 0 s ≡ Taken n → n < length s → getD s n 0 ≡ 0x3C → Opened (drop (n + 1) s) → Barren 0 n s
 barren-opened s n e h f o i k l g =
     ap (tried (rst .embedded)) (at-tick s i (omega arith) g) ∙ unlinked (0x60 ∷ drop (suc i) s) (tick-opened s n i e l g h f o)
 

@@ -17,8 +17,8 @@ use Rattle.rst_bytes.specs.Appending.{free}
 use Rattle.rst_bytes.specs.Escaped.{isStop}
 use Rattle.rst_bytes.specs.Line.{bytesFrom, isSpace, isMultispace, space0Of}
 use Rattle.rst_bytes.proofs.Lists.{drop-next, drop-end}
-use Rattle.rst_bytes.proofs.TestLaws.{by-test, or-cases, lt-or-le}
-use Rattle.rst_bytes.proofs.LineLaws.{bytes-pass, bytes-stop, bytes-within, bytes-count}
+use Rattle.rst_bytes.proofs.TestLaws.{by-test, lt-or-le}
+use Rattle.rst_bytes.proofs.LineLaws.{bytes-pass, bytes-stop, bytes-within, bytes-count, multispace-cases}
 use Rattle.restructured_text.specs.Calm.{calm, Parted, Ended}
 use Rattle.restructured_text.proofs.CalmLaws.{calm-drop, calm-text2dest, calm-text-label2dest, calm-text2label, calm-label2label, calm-label2dest}
 use Rattle.parse.specs.Link.{Scanned, found, nothing, behind, orElse}
@@ -55,18 +55,8 @@ module _ (x z : List ℕ) (h : calm x ≡ true) (e : Parted z) where
 
 -- white space opens nothing
 white-opening : (c : ℕ) (z : List ℕ) → isMultispace c ≡ true → openingOf (c ∷ z) ≡ 0
-unfolding openingOf isOpening isMultispace
-white-opening c z h =
-    ⊎-elim (at 32 refl)
-    (λ i. ⊎-elim (at 9 refl)
-    (λ j. ⊎-elim (at 13 refl)
-    (λ k. ⊎-elim (at 10 refl) (λ l. absurd (false≢true l)) (or-cases (eqb c 10) _ k))
-    (or-cases (eqb c 13) _ j))
-    (or-cases (eqb c 9) _ i))
-    (or-cases (eqb c 32) _ h)
-  where
-    at : (n : ℕ) → openingOf (n ∷ z) ≡ 0 → eqb c n ≡ true → openingOf (c ∷ z) ≡ 0
-    at n w e = ap (λ (b : ℕ). openingOf (b ∷ z)) (eqb-true c n e) ∙ w
+unfolding openingOf isOpening
+white-opening c z h = multispace-cases (λ (b : ℕ). openingOf (b ∷ z) ≡ 0) c h refl refl refl refl
 
 -- one byte is skipped, or none
 no-reference : (spaced : Bool) (x z : List ℕ) → calm x ≡ true → Parted z → referenceAt rst spaced (x ++ z) ≡ nothing

@@ -19,8 +19,8 @@ use Rattle.parse.specs.Scan.{isOpening, openingOf, inlineAt, isStart, pa
 use Rattle.parse.specs.Single.{Outcome, isPlace, singleOf}
 use Rattle.parse.specs.Cases.{times, Case, outcome, expected, worked, readings}
 
--- the outcomes of a list's calls; its line names all that computing them goes through
-outcomes : List Case → List Outcome
+-- the outcomes of a list's calls; its line names all that computing them goes through, and whoever unfolds it unfolds that
+unfoldable pub outcomes : List Case → List Outcome
 unfolding isPair charOf run outsideOf isAsciiWord isWord inRanges wordRanges wordOf isBlank blanks trimOf isEscapable isStop taking escapedOf lineEndingOf lineFrom isSpace isMultispace bytesFrom space1Of startsWith reading gives isDestinationEscapable unblank textOf destinationOf delimitedOf endsWith targetOf insideOf text2targetOf wordLabelOf rawLabelOf simpleLabelOf formOf parseText2labelOf text2destOf textLabel2destOf text2labelOf startOf cutOf furtherOf linesOf blockOf plainNameOf nameOf restOf excluded parseLabel2targetOf namedOf anonymousOf label2targetOf label2destOf label2labelOf isOpening openingOf inlineAt isStart passedOf textRound blankRound lineRound roundOf rounds scanWith scanOf isPlace singleOf times
 outcomes cases = map outcome cases
 

@@ -10,4 +10,4 @@ pub mod CalmLaws
 pub mod OnwardLaws
 pub mod SingleLaws
 pub mod SizeLaws
-mod CasesHold
+pub mod CasesHold

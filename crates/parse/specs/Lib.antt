@@ -21,11 +21,12 @@
 --   scratch            RoundLaws lent-enough, lent-short: a scratch as long as the text is enough, and is asked for
 --   sizes              SizeLaws scan-of-sized: the strings of a link are no longer than what it consumed; links-of-measured: so are those of
 --                      each link of a text, which has at least one byte; single-small: the lengths and places of the single-link
---                      answer are at most that of the longest document
+--                      answer are at most that of the longest document (Small)
 --   calm               CalmLaws calm-skips: the rounds from a place on are those from a later one on, where no _ and no backtick stands
 --                      between and (f) ends there, before LF or the end; gap-skips: or before a blank, where no line starts
 --   handing on         OnwardLaws found-holds, behind-holds: what is known of backticks where a link is found is true of the text behind
 --                      it, which the next scan reads; holds-nothing: nothing known is true of every text
+--   computing          CasesHold outcomes: to unfold it is to unfold all that computing a scan goes through
 --   in order and apart LinksLaws links-apart *, links-of-apart: each link starts at or after the end of the one before
 --   appending          on s ++ 10 ∷ t, for `Tail t` and `Body s`: AppendingLaws scan-lf: a link found in s is found alike; scan-none-lf:
 --                      where none is, whatever is found starts past the LF; links-lf: the links are those of s and then some that start

@@ -2,89 +2,55 @@
 -- with `_` or begins with a backtick, as an embedded link does, and white space is in no word. Where none stands before LF, or before the
 -- end, there is no target either: it has a `_` before its name, and none of the bytes before that is LF.
 -- Assumes nothing.
-use Prim.Native.Nat.{ℕ, zero, suc, _-_, _<_}
+use Prim.Native.Nat.{ℕ, _-_, _<_}
 use native.Mathlib.Omega.{arith}
-use mathlib.Core.Path.{_≡_, refl, sym, ap, subst⁻¹, _∙_}
+use mathlib.Core.Path.{_≡_, refl, sym, ap, _∙_}
 use mathlib.Core.List.{List, [], _∷_, _++_, append-nil}
-use mathlib.Core.Bool.{Bool, true, false, _&&_, _||_, and-false, true≢false, false≢true}
-use mathlib.Core.Logic.{inr, ⊎-elim}
-use lib.Dec.{leb, eqb}
+use mathlib.Core.Bool.{Bool, true, false, _&&_, _||_, and-false, true≢false}
+use mathlib.Core.Logic.{inr}
+use lib.Dec.{leb}
 use lib.ListN.{length, drop, take}
 use lib.Seq.{take-append-le, drop-append-le}
-use borrow.Author.Tests.{eqb-true}
 use Rattle.rst_bytes.specs.Appending.{free}
 use Rattle.rst_bytes.specs.Escaped.{isStop}
 use Rattle.rst_bytes.specs.Line.{isMultispace, space0Of}
 use Rattle.rst_bytes.specs.Tag.{startsWith}
 use Rattle.rst_bytes.specs.Word.{isAsciiWord, wordOf}
 use Rattle.rst_bytes.specs.declared.Part.the-variants.{Refused}
-use Rattle.rst_bytes.proofs.TestLaws.{or-cases}
-use Rattle.rst_bytes.proofs.EscapedLaws.{free-next}
-use Rattle.rst_bytes.proofs.LineLaws.{space0-le, space0-lf}
-use Rattle.rst_bytes.proofs.TagLaws.{starts-byte, starts-lf}
+use Rattle.rst_bytes.proofs.EscapedLaws.{free-drop, free-take}
+use Rattle.rst_bytes.proofs.LineLaws.{space0-le, space0-lf, multispace-cases}
+use Rattle.rst_bytes.proofs.TagLaws.{starts-free, starts-byte, starts-lf}
 use Rattle.rst_bytes.proofs.WordLaws.{word-within, word-ended}
-use Rattle.restructured_text.specs.declared.Spans.the-variants.{Nothing}
 use Rattle.restructured_text.specs.declared.label.SimpleLabel.the-variants.{NoLabel}
 use Rattle.restructured_text.specs.Calm.{calm, Parted, Ended}
 use Rattle.restructured_text.specs.Delimited.{endsWith, closing, backtickedOf}
-use Rattle.restructured_text.specs.Label.{wordLabelOf, parseText2labelOf}
+use Rattle.restructured_text.specs.Label.{wordLabelOf}
 use Rattle.restructured_text.specs.Strings.{none}
 use Rattle.restructured_text.specs.Inline.{finishedOf, text2destOf, textLabel2destOf, text2labelOf}
-use Rattle.restructured_text.specs.Target.{label2targetOf, label2destOf, label2labelOf, startsTarget}
+use Rattle.restructured_text.specs.Target.{label2destOf, label2labelOf, startsTarget}
 use Rattle.restructured_text.proofs.DelimitedLaws.{delimited-none}
 use Rattle.restructured_text.proofs.Text2targetLaws.{form-none}
 use Rattle.restructured_text.proofs.LabelLaws.{word-none, raw-word, simple-none, form-simple, reference-none}
 use Rattle.restructured_text.proofs.InlineLaws.{text2dest-refused, text-label2dest-refused}
 use Rattle.restructured_text.proofs.TargetLaws.{no-target}
 
--- one byte more in front
-calm-next : (b : ℕ) (s : List ℕ) → isStop 0x5F 0x60 b ≡ false → calm s ≡ true → calm (b ∷ s) ≡ true
-unfolding calm free
-calm-next b s e h = rw (e, free) h
-
--- what begins a calm text is calm
-calm-starts : (t s : List ℕ) → calm s ≡ true → startsWith t s ≡ true → calm t ≡ true
-unfolding calm free startsWith
-calm-starts [] s h e = refl
-calm-starts (c ∷ t) [] h e = absurd (false≢true e)
-calm-starts (c ∷ t) (b ∷ s) h e = go (eqb b c) refl e (calm-starts t s (free-next 0x5F 0x60 b s h .1))
-  where
-    go : (x : Bool) → eqb b c ≡ x → elim x [ true ↦ startsWith t s | false ↦ false ] ≡ true → (startsWith t s ≡ true → calm t ≡ true) → calm (c ∷ t) ≡ true
-    go true f g ih = calm-next c t (ap (isStop 0x5F 0x60) (sym (eqb-true b c f)) ∙ free-next 0x5F 0x60 b s h .0) (ih g)
-    go false f g ih = absurd (false≢true g)
-
--- and so are its parts
+-- the parts of a calm text are calm
 pub calm-drop : (n : ℕ) (s : List ℕ) → calm s ≡ true → calm (drop n s) ≡ true
-unfolding calm free
-calm-drop zero s h = h
-calm-drop (suc n) [] h = refl
-calm-drop (suc n) (b ∷ s) h = calm-drop n s (free-next 0x5F 0x60 b s h .1)
+unfolding calm
+calm-drop n s h = free-drop 0x5F 0x60 n s h
 
 calm-take : (n : ℕ) (s : List ℕ) → calm s ≡ true → calm (take n s) ≡ true
-unfolding calm free
-calm-take zero s h = refl
-calm-take (suc n) [] h = refl
-calm-take (suc n) (b ∷ s) h =
-    let w = free-next 0x5F 0x60 b s h in
-    calm-next b (take n s) (w .0) (calm-take n s (w .1))
+unfolding calm
+calm-take n s h = free-take 0x5F 0x60 n s h
 
 -- white space is below 80, in no word, and no backtick
 abbrev White : ℕ → Type 0
 White b = (b < 0x80) × (isAsciiWord b ≡ false) × (free b b (0x60 ∷ []) ≡ true)
 
 white : (b : ℕ) → isMultispace b ≡ true → White b
-unfolding isMultispace isAsciiWord free isStop
+unfolding isAsciiWord free isStop
 white b h =
-    ⊎-elim (at 32 (omega arith, refl, refl))
-    (λ i. ⊎-elim (at 9 (omega arith, refl, refl))
-    (λ j. ⊎-elim (at 13 (omega arith, refl, refl))
-    (λ k. ⊎-elim (at 10 (omega arith, refl, refl)) (λ l. absurd (false≢true l)) (or-cases (eqb b 10) _ k))
-    (or-cases (eqb b 13) _ j))
-    (or-cases (eqb b 9) _ i))
-    (or-cases (eqb b 32) _ h)
-  where
-    at : (n : ℕ) → White n → eqb b n ≡ true → White b
-    at n w e = subst⁻¹ White (eqb-true b n e) w
+    multispace-cases White b h (omega arith, refl, refl) (omega arith, refl, refl) (omega arith, refl, refl) (omega arith, refl, refl)
 
 -- white space and more behind a text, or nothing: what white space does not change
 parted : {A : Type 0} (f : List ℕ → A) (x z : List ℕ) → Parted z → ((b : ℕ) → White b → (t : List ℕ) → f (x ++ b ∷ t) ≡ f x) → f (x ++ z) ≡ f x
@@ -98,10 +64,11 @@ ended f x (b ∷ t) h g = ap (λ (c : ℕ). f (x ++ c ∷ t)) h ∙ g t
 
 -- bytes that are not calm begin no calm text
 not-starts : (p x : List ℕ) → calm x ≡ true → calm p ≡ false → startsWith p x ≡ false
+unfolding calm
 not-starts p x h k = go (startsWith p x) refl
   where
     go : (b : Bool) → startsWith p x ≡ b → b ≡ false
-    go true e = absurd (true≢false (sym (calm-starts p x h e) ∙ k))
+    go true e = absurd (true≢false (sym (starts-free 0x5F 0x60 p x h e) ∙ k))
     go false e = refl
 
 not-ends : (p x : List ℕ) → calm x ≡ true → calm p ≡ false → endsWith p x ≡ false

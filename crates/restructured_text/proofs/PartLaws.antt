@@ -1,5 +1,5 @@
--- A part of a text that was lent and comes back changed, in the place where it stood: what a part of the text is then, in its
--- place, before it and after it.
+-- Parts of a text. More behind the text leaves them; and where a part was lent and comes back changed, in the place where it stood, what
+-- stands in its place, before it and after it.
 -- Assumes nothing.
 use Prim.Native.Nat.{ℕ, zero, suc, _+_, _-_, _<_, _≤_}
 use mathlib.Core.Path.{_≡_, refl, sym, ap, _∙_}
@@ -13,6 +13,11 @@ use borrow.Rule.Slice.PartMut.{midOf, postOf, putMid, same-len-mid}
 pub part-length : (a k : ℕ) (d : List ℕ) → a + k ≤ length d → length (midOf a k d) ≡ k
 part-length a k d h = length-take-le k (drop a d) (omega (arith, length-drop a d))
 
+-- a part within s is the same with more behind s
+pub part-append : (s u : List ℕ) (a k : ℕ) → a + k ≤ length s → take k (drop a (s ++ u)) ≡ take k (drop a s)
+part-append s u a k h =
+    ap (take k) (drop-append-le a s u (omega arith)) ∙ take-append-le k (drop a s) u (omega (arith, length-drop a s))
+
 -- k bytes from a on are replaced by y.
 module _ (a k : ℕ) (d y : List ℕ) where
   -- what stands in their place
@@ -23,14 +28,10 @@ module _ (a k : ℕ) (d y : List ℕ) where
   -- what stands before them
   pub put-before : (b n : ℕ) → b + n ≤ a → a ≤ length d → take n (drop b (putMid a k d y)) ≡ take n (drop b d)
   put-before b n h g =
-      front (y ++ postOf a k d)
-      ∙ sym (front (drop a d))
+      let l : b + n ≤ length (take a d) = omega (arith, length-take-le a d g) in
+      part-append (take a d) (y ++ postOf a k d) b n l
+      ∙ sym (part-append (take a d) (drop a d) b n l)
       ∙ ap (λ (x : List ℕ). take n (drop b x)) (take-append-drop a d)
-    where
-      front : (x : List ℕ) → take n (drop b (take a d ++ x)) ≡ take n (drop b (take a d))
-      front x =
-          ap (take n) (drop-append-le b (take a d) x (omega (arith, length-take-le a d g)))
-          ∙ take-append-le n (drop b (take a d)) x (omega (arith, length-take-le a d g, length-drop b (take a d)))
 
   -- what stands after them
   pub put-after : (b : ℕ) → a + k ≤ b → a + k ≤ length d → length y ≡ k → drop b (putMid a k d y) ≡ drop b d

@@ -6,8 +6,8 @@ use mathlib.Core.Path.{_≡_, sym, ap, _∙_}
 use mathlib.Core.List.{List, _++_}
 use mathlib.Core.Bool.{Bool, false}
 use native.Mathlib.Omega.{arith}
-use lib.ListN.{length, take, drop, length-take, length-drop}
-use lib.Seq.{length-take-le, take-append-le, drop-append-le}
+use lib.ListN.{length, take, drop, length-take}
+use lib.Seq.{length-take-le}
 use borrow.Author.Tests.{lt-ltb, le-ltb}
 use borrow.Rule.Slice.PartMut.{midOf, putMid}
 use Rattle.restructured_text.specs.declared.Span.{Span}
@@ -16,7 +16,7 @@ use Rattle.restructured_text.specs.declared.transform.Transformed.the-va
 use Rattle.restructured_text.specs.Transform.{Given, whole, refused, textOf, transformOf, answerOf, bytesOf}
 use Rattle.restructured_text.specs.Strings.{Link, link, none, no-room, part, paired, linked, lent}
 use Rattle.restructured_text.proofs.TransformLaws.{text-text, text-wrong, answer-refused, text-le, transform-le}
-use Rattle.restructured_text.proofs.PartLaws.{part-front, part-length, put-length, put-here, put-before, put-after}
+use Rattle.restructured_text.proofs.PartLaws.{part-append, part-front, part-length, put-length, put-here, put-before, put-after}
 
 -- a whole text, by its answer and by what stands at the front of y
 given-whole : (g : Given) (y : List ℕ) (i : ℕ) → Text i ≡ answerOf g → take (length (bytesOf g)) y ≡ bytesOf g → (g ≡ whole (take i y)) × (i ≡ length (bytesOf g))
@@ -128,22 +128,16 @@ linked-shared a n d x h i u =
     let l : a .start + i ≤ n = omega (arith, u .len) in
     (rw e (sym (paired-whole _ _ _ _ n (told-whole u) (told-whole u))) ∙ linked-reach false d a a n, (l, l))
 
--- A span that stands within a text: more behind the text changes nothing.
-part-append : (a : Span) (s x : List ℕ) → a .start + a .len ≤ length s → part a (s ++ x) ≡ part a s
-part-append a s x h =
-    ap (take (a .len)) (drop-append-le (a .start) s x (omega arith))
-    ∙ take-append-le (a .len) (drop (a .start) s) x (omega (arith, length-drop (a .start) s))
-
 -- a span within the text's first n bytes: only these matter
 part-copied : (a : Span) (s x : List ℕ) (n : ℕ) → a .start + a .len ≤ n → n ≤ length s → part a (take n s ++ x) ≡ part a s
 part-copied a s x n h g =
     let l : length (take n s) ≡ n = length-take-le n s g in
-    part-append a (take n s) x (omega arith) ∙ part-front (a .start) (a .len) n s h
+    part-append (take n s) x (a .start) (a .len) (omega arith) ∙ part-front (a .start) (a .len) n s h
 
--- The same for the strings of two raw parts.
+-- The strings of two raw parts: more behind the text, or behind its first n bytes, changes nothing.
 module _ (t : Bool) (a b : Span) (n : ℕ) (s x : List ℕ) where
   pub linked-append : a .start + a .len ≤ length s → b .start + b .len ≤ length s → linked t (s ++ x) a b n ≡ linked t s a b n
-  linked-append h k = rw (part-append a s x h, part-append b s x k)
+  linked-append h k = rw (part-append s x (a .start) (a .len) h, part-append s x (b .start) (b .len) k)
 
   pub linked-front : a .start + a .len ≤ n → b .start + b .len ≤ n → n ≤ length s → linked t (take n s ++ x) a b n ≡ linked t s a b n
   linked-front h k g = rw (part-copied a s x n h g, part-copied b s x n k g)

@@ -16,12 +16,13 @@ use Rattle.rst_bytes.specs.Escaped.{isEscapable, isStop, taking}
 use Rattle.rst_bytes.specs.declared.Part.the-variants.{Taken}
 use Rattle.rst_bytes.specs.Line.{isMultispace, bytesFrom}
 use Rattle.rst_bytes.proofs.Lists.{drop-next, drop-two, drop-last, drop-end}
-use Rattle.rst_bytes.proofs.TestLaws.{by-test}
+use Rattle.rst_bytes.proofs.TestLaws.{picks-first, picks-second, by-test}
 use Rattle.rst_bytes.proofs.EscapedLaws.{refused-taken, taken-is}
 use Rattle.rst_bytes.proofs.LineLaws.{bytes-within, bytes-count}
 use Rattle.restructured_text.specs.declared.transform.Transformed.{Transformed}
 use Rattle.restructured_text.specs.declared.transform.Transformed.the-variants.{Text, Wrong}
-use Rattle.restructured_text.specs.Transform.{Given, whole, refused, onto, reading, gives, itself, isBare, only, unescapedOf, isDestinationEscapable, unblank, keptOf, textOf, destinationOf, transformOf, answerOf, bytesOf, over}
+use Rattle.restructured_text.specs.Inner.{isBare}
+use Rattle.restructured_text.specs.Transform.{Given, whole, refused, onto, reading, gives, itself, only, unescapedOf, isDestinationEscapable, unblank, keptOf, textOf, destinationOf, transformOf, answerOf, bytesOf, over}
 
 -- What is put in front.
 
@@ -36,14 +37,6 @@ onto-none (refused l) = refl
 onto-length : (a : List ℕ) (g : Given) → length (bytesOf (onto a g)) ≡ length a + length (bytesOf g)
 onto-length a (whole l) = length-append a l
 onto-length a (refused l) = length-append a l
-
--- What a test picks.
-module _ {A : Type 0} (t : Bool) (x y : A) where
-  picks-first : t ≡ true → elim t [ true ↦ x | false ↦ y ] ≡ x
-  picks-first e = rw e
-
-  picks-second : t ≡ false → elim t [ true ↦ x | false ↦ y ] ≡ y
-  picks-second e = rw e
 
 -- One step of `reading`.
 module _ (ok : ℕ → Bool) (pair plain : ℕ → List ℕ) where

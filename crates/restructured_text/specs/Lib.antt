@@ -17,7 +17,7 @@
 --                both of these        target::rst_target                                 one with either, read once
 -- Delimited says what a part between two tags is. Strings says what an answer means with the scratch as the parser left it, and
 -- that a scratch as long as the input is enough and is asked for; the strings then end within as many bytes of it as are consumed
--- (Ends, part of each contract).
+-- (Ends, part of each contract). Inner is what the contracts of private functions speak of.
 --
 -- Laws, proved in the file of proofs/ that is named, for the layers above:
 --   consumed     at least one byte and at most all of the input, spans inside, strings no longer than that: Text2targetLaws
@@ -25,8 +25,11 @@
 --                text-label2dest-consumed, text2label-consumed; BlockLaws block-consumed; TargetLaws parse-apart,
 --                label2target-consumed, label2dest-consumed, label2label-consumed; TransformLaws text-le, destination-le
 --   scratch      no definition says that there is no room: InlineLaws text2dest-room, text-label2dest-room, text2label-room;
---                BlockLaws block-scratch; TargetLaws label2target-room, label2dest-room, label2label-room
---   parts        where some bytes of a text are replaced: PartLaws part-length, part-front, put-here, put-before, put-after, put-length
+--                BlockLaws block-scratch; TargetLaws label2target-room, label2dest-room, label2label-room; StringsLaws lent-enough: one
+--                as long as the input is enough
+--   parts        of a text, and where some bytes of it are replaced: PartLaws part-append, part-length, part-front, put-here,
+--                put-before, put-after, put-length; StringsLaws reach: how far it is from a span's start to its end, as the code says it;
+--                DelimitedLaws delimited-is: a part between tags that is taken has them
 --   one of two   a block is no alias and destination at once: TargetLaws alias-or-destination, destination-or-alias
 --   none         where no backticked run begins there is no inline form: InlineLaws text2dest-refused, text-label2dest-refused,
 --                text2label-refused; DelimitedLaws backticked-other: another byte than a backtick begins no run; where the run that
@@ -34,7 +37,8 @@
 --                there is none with more text before it, there is none: embedded-longer; TargetLaws no-target, no-label,
 --                no-destination: where neither `.. _` nor `__ ` starts there is no target
 --   calm         where no _ and no backtick stands before white space or the end (Calm) no inline form is found: CalmLaws calm-text2dest,
---                calm-text-label2dest, calm-text2label; before LF or the end no target either: calm-label2dest, calm-label2label
+--                calm-text-label2dest, calm-text2label; before LF or the end no target either: calm-label2dest, calm-label2label;
+--                calm-drop: what is behind in it is calm too
 --   appending    on s ++ 10 ∷ t, for `Tail t`: Text2targetLaws text2target-lf; LabelLaws simple-lf, reference-lf; InlineLaws
 --                text2dest-lf, text-label2dest-lf, text2label-lf; for `Tail t` and `Body s`: BlockLaws block-lf; TargetLaws
 --                label2target-lf, label2dest-lf, label2label-lf
@@ -47,3 +51,4 @@ pub mod Inline
 pub mod Block
 pub mod Target
 pub mod Calm
+pub mod Inner

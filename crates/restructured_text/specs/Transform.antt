@@ -4,7 +4,7 @@
 -- Assumes nothing.
 use Prim.Native.Nat.{ℕ}
 use mathlib.Core.List.{List, [], _∷_, _++_}
-use mathlib.Core.Bool.{Bool, true, false, _||_, not}
+use mathlib.Core.Bool.{Bool, true, false}
 use lib.Dec.{eqb}
 use lib.ListN.{length, drop}
 use Rattle.rst_bytes.specs.Tests.{oneOf}
@@ -75,10 +75,6 @@ destinationOf s = elim (keptOf s) [ whole l ↦ unescapedOf true l | refused l �
 abbrev pub transformOf : Bool → List ℕ → Given
 transformOf true s = destinationOf s
 transformOf false s = textOf s
-
--- neither a backslash nor space, tab, CR, LF: such a byte stands for itself in both
-unfoldable pub isBare : ℕ → Bool
-isBare b = not (eqb b 0x5C || isMultispace b)
 
 -- what is answered
 abbrev pub answerOf : Given → Transformed

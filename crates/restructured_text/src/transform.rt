@@ -3,8 +3,8 @@ use rst_bytes::escaped::is_escapable;
 use rst_bytes::line::is_multispace;
 ghost use mathlib.Core.Path.{_≡_};
 ghost use Rattle.rst_bytes.specs.Line.{bytesFrom};
+ghost use Rattle.restructured_text.specs.Inner.{isBare};
 ghost use Rattle.restructured_text.specs.Transform.{
-  isBare,
   isDestinationEscapable,
   gives,
   unescapedOf,

@@ -13,7 +13,8 @@ use lib.ListN.{length, getD, drop, length-drop, length-append}
 use lib.Seq.{getD-drop, drop-drop}
 use borrow.Author.Tests.{ltb-true, leb-true, eqb-true, lt-ltb, le-ltb, lt-leb, ne-eqb}
 use Rattle.rst_bytes.specs.Tests.{between}
-use Rattle.rst_bytes.specs.Domain.{isPair, pointOf, pairOf, charOf, run, any, isAscii, outsideOf}
+use Rattle.rst_bytes.specs.Domain.{isPair, pointOf, pairOf, charOf, run, any, outsideOf}
+use Rattle.rst_bytes.specs.Inner.{isAscii}
 use Rattle.rst_bytes.specs.declared.Character.{Character}
 use Rattle.rst_bytes.specs.declared.Character.the-variants.{Starts, Nothing}
 use Rattle.rst_bytes.specs.declared.Outside.{Outside}

@@ -372,10 +372,24 @@ free-next p q b l h = go (isStop p q b) refl h
     go true e f = absurd (false≢true f)
     go false e f = (e, f)
 
--- LF before it adds no stop byte
-free-lf : (p q : ℕ) (t : List ℕ) → isStop p q 10 ≡ false → free p q t ≡ true → free p q (10 ∷ t) ≡ true
+-- one byte more in front of it
+pub free-more : (p q b : ℕ) (l : List ℕ) → isStop p q b ≡ false → free p q l ≡ true → free p q (b ∷ l) ≡ true
 unfolding free
-free-lf p q t h f = rw (h, free) f
+free-more p q b l e h = rw (e, free) h
+
+-- its parts
+pub free-drop : (p q n : ℕ) (l : List ℕ) → free p q l ≡ true → free p q (drop n l) ≡ true
+free-drop p q zero l h = h
+free-drop p q (suc n) [] h = h
+free-drop p q (suc n) (b ∷ l) h = free-drop p q n l (free-next p q b l h .1)
+
+pub free-take : (p q n : ℕ) (l : List ℕ) → free p q l ≡ true → free p q (take n l) ≡ true
+unfolding free
+free-take p q zero l h = refl
+free-take p q (suc n) [] h = refl
+free-take p q (suc n) (b ∷ l) h =
+    let w = free-next p q b l h in
+    free-more p q b (take n l) (w .0) (free-take p q n l (w .1))
 
 -- a text without p and q is taken as a whole, or refused
 taking-free : (p q : ℕ) (l : List ℕ) (esc : Bool) (n k : ℕ) → n + length l ≡ k → free p q l ≡ true → (taking p q esc n l ≡ Refused) ⊎ (taking p q esc n l ≡ Taken k)
@@ -437,4 +451,4 @@ module _ (p q : ℕ) (s t : List ℕ) where
   pub open-lf : isStop p q 10 ≡ false → free p q t ≡ true → escapedOf p q s ≡ Taken (length s) → (escapedOf p q (s ++ 10 ∷ t) ≡ Refused) ⊎ (escapedOf p q (s ++ 10 ∷ t) ≡ Taken (length (s ++ 10 ∷ t)))
   open-lf h f e =
       rw (joined (Taken (length s)) e .1 refl h)
-      (taking-free p q (10 ∷ t) false (length s) (length (s ++ 10 ∷ t)) (sym (length-append s (10 ∷ t))) (free-lf p q t h f))
+      (taking-free p q (10 ∷ t) false (length s) (length (s ++ 10 ∷ t)) (sym (length-append s (10 ∷ t))) (free-more p q 10 t h f))

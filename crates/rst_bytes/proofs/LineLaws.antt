@@ -2,22 +2,22 @@
 -- text; how much is taken, and what is taken of a text behind which LF and more is put, follow by induction.
 -- Assumes nothing.
 use Prim.Native.Nat.{ℕ, zero, suc, _+_, _-_, _<_, _≤_}
-use mathlib.Core.Path.{_≡_, refl, sym, ap, _∙_, subst}
+use mathlib.Core.Path.{_≡_, refl, sym, ap, _∙_, subst, subst⁻¹}
 use mathlib.Core.List.{List, [], _∷_, _++_}
-use mathlib.Core.Bool.{Bool, true, false, true≢false}
-use mathlib.Core.Logic.{_⊎_, inl, inr}
+use mathlib.Core.Bool.{Bool, true, false, true≢false, false≢true}
+use mathlib.Core.Logic.{_⊎_, inl, inr, ⊎-elim}
 use native.Mathlib.Nat.{not-suc-le-zero, suc-ne-zero, sub-self}
 use native.Mathlib.Omega.{arith}
 use lib.Dec.{eqb}
 use lib.ListN.{length, getD, drop, take}
-use borrow.Author.Tests.{eq-eqb, ne-eqb, eqb-false}
+use borrow.Author.Tests.{eq-eqb, ne-eqb, eqb-true, eqb-false}
 use Rattle.rst_bytes.specs.declared.Part.{Part}
 use Rattle.rst_bytes.specs.declared.Part.the-variants.{Taken, Refused}
 use Rattle.rst_bytes.specs.Line.{startsLf, newlineOf, lineEndingOf, lineFrom, notLineEndingOf, isSpace, isMultispace, bytesFrom, space0Of, space1Of, multispace0Of}
 use Rattle.rst_bytes.specs.Escaped.{isStop}
 use Rattle.rst_bytes.specs.Appending.{free, endsInCr, startsSpace, Body}
 use Rattle.rst_bytes.proofs.Lists.{drop-next, drop-two, drop-last, drop-end}
-use Rattle.rst_bytes.proofs.TestLaws.{by-test, by-test₂}
+use Rattle.rst_bytes.proofs.TestLaws.{by-test, by-test₂, or-cases}
 
 -- The two line endings.
 module _ (b : ℕ) (l : List ℕ) where
@@ -380,3 +380,18 @@ space0-starts (b ∷ s) u h = go (isSpace b) refl
     go : (t : Bool) → isSpace b ≡ t → startsSpace (take (space0Of (b ∷ s)) (b ∷ s) ++ u) ≡ true
     go true e = rw (space0-next b s e) e
     go false e = rw (space0-none b s e) h
+
+-- white space is one of four bytes
+pub multispace-cases : (P : ℕ → Type 0) (b : ℕ) → isMultispace b ≡ true → P 32 → P 9 → P 13 → P 10 → P b
+unfolding isMultispace
+multispace-cases P b h space tab cr lf =
+    ⊎-elim (at 32 space)
+    (λ i. ⊎-elim (at 9 tab)
+    (λ j. ⊎-elim (at 13 cr)
+    (λ k. ⊎-elim (at 10 lf) (λ l. absurd (false≢true l)) (or-cases (eqb b 10) _ k))
+    (or-cases (eqb b 13) _ j))
+    (or-cases (eqb b 9) _ i))
+    (or-cases (eqb b 32) _ h)
+  where
+    at : (n : ℕ) → P n → eqb b n ≡ true → P b
+    at n w e = subst⁻¹ P (eqb-true b n e) w

@@ -1,5 +1,5 @@
--- The laws of `startsWith`: at a position of both lists, by the code's tests; how long a list is that begins with another; and that
--- LF behind a list adds no beginning that has no LF.
+-- The laws of `startsWith`: at a position of both lists, by the code's tests; how long a list is that begins with another; that what
+-- a list lacks its beginnings lack; and that LF behind a list adds no beginning that has no LF.
 -- Assumes nothing.
 use Prim.Native.Nat.{ℕ, suc, _+_, _<_, _≤_}
 use native.Mathlib.Omega.{arith}
@@ -15,10 +15,10 @@ use Rattle.rst_bytes.specs.Escaped.{isStop}
 use Rattle.rst_bytes.specs.Appending.{free, startsSpace}
 use Rattle.rst_bytes.proofs.Lists.{drop-next, drop-end}
 use Rattle.rst_bytes.proofs.TestLaws.{by-test₂}
-use Rattle.rst_bytes.proofs.EscapedLaws.{free-next}
+use Rattle.rst_bytes.proofs.EscapedLaws.{free-next, free-more}
 
 -- every list begins with the empty one
-pub starts-nil : (s : List ℕ) → startsWith [] s ≡ true
+starts-nil : (s : List ℕ) → startsWith [] s ≡ true
 unfolding startsWith
 starts-nil s = refl
 
@@ -63,6 +63,17 @@ starts-append [] u s = refl
 starts-append (c ∷ t) u [] = refl
 starts-append (c ∷ t) u (b ∷ s) =
     by-test₂ (λ x y. x ≡ (y && startsWith u (drop (length t) s))) (eqb b c) _ _ _ _ (λ e. starts-append t u s) (λ e. refl)
+
+-- what begins a text without p and q is without them
+pub starts-free : (p q : ℕ) (t s : List ℕ) → free p q s ≡ true → startsWith t s ≡ true → free p q t ≡ true
+unfolding free startsWith
+starts-free p q [] s h e = refl
+starts-free p q (c ∷ t) [] h e = absurd (false≢true e)
+starts-free p q (c ∷ t) (b ∷ s) h e = go (eqb b c) refl e (starts-free p q t s (free-next p q b s h .1))
+  where
+    go : (x : Bool) → eqb b c ≡ x → elim x [ true ↦ startsWith t s | false ↦ false ] ≡ true → (startsWith t s ≡ true → free p q t ≡ true) → free p q (c ∷ t) ≡ true
+    go true f g ih = free-more p q c t (ap (isStop p q) (sym (eqb-true b c f)) ∙ free-next p q b s h .0) (ih g)
+    go false f g ih = absurd (false≢true g)
 
 -- a byte is no stop byte of a list without it
 stops : (a c : ℕ) → c ≡ a → isStop a a c ≡ false → ⊥

@@ -7,6 +7,14 @@ use Prim.Native.Nat.{ℕ, _<_, _≤_}
 use lib.Dec.{ltb}
 use borrow.Author.Tests.{ltb-true, ltb-false}
 
+-- what a test picks
+module _ {ℓ} {A : Type ℓ} where
+  pub picks-first : (t : Bool) (x y : A) → t ≡ true → elim t [ true ↦ x | false ↦ y ] ≡ x
+  picks-first t x y e = rw e
+
+  pub picks-second : (t : Bool) (x y : A) → t ≡ false → elim t [ true ↦ x | false ↦ y ] ≡ y
+  picks-second t x y e = rw e
+
 module _ {A : Type 0} where
   -- of one test, what holds of either answer holds of its answer
   pub by-test : (P : A → Type 0) (t : Bool) (x y : A) → (t ≡ true → P x) → (t ≡ false → P y) → P (elim t [ true ↦ x | false ↦ y ])

@@ -12,7 +12,8 @@ use mathlib.Core.Bool.{Bool, true, false, _&&_, or-true, or-false, and-false}
 use lib.Dec.{T, leb, ltb, leb→le, ltb→lt}
 use lib.ListN.{length, getD, drop}
 use borrow.Author.Tests.{le-leb, lt-leb, ne-eqb}
-use Rattle.rst_bytes.specs.Word.{inRanges, apart, wordRanges, isAsciiWord, isWord, wordOf}
+use Rattle.rst_bytes.specs.Word.{inRanges, wordRanges, isAsciiWord, isWord, wordOf}
+use Rattle.rst_bytes.specs.Inner.{apart}
 use Rattle.rst_bytes.specs.Domain.{run}
 use Rattle.rst_bytes.proofs.DomainLaws.{at-one, at-taken, run-ended, run-within, run-low}
 

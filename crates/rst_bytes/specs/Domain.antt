@@ -48,11 +48,6 @@ any point = true
 abbrev pub charactersOf : List ℕ → ℕ
 charactersOf s = run any 0 0 s
 
--- every byte is below 80 hex
-unfoldable pub isAscii : List ℕ → Bool
-isAscii [] = true
-isAscii (b ∷ rest) = ltb b 0x80 && isAscii rest
-
 -- "first byte that starts no character of the domain": reading from the start, character by character
 unfoldable pub outsideOf : List ℕ → Outside
 outsideOf s = elim (ltb (charactersOf s) (length s)) [ true ↦ At (charactersOf s) | false ↦ Nowhere ]

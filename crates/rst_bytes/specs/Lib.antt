@@ -18,6 +18,7 @@
 --             multispace0Of    line::multispace0        a run of these
 --   Tag       startsWith       tag::tag                 given bytes at the front
 --   Appending Body, Tail, free                          what the laws on appended text speak of
+-- Inner is what the contracts of private functions speak of.
 --
 -- Laws, proved in the file of proofs/ that is named, for the layers above:
 --   within the input   DomainLaws char-within, char-at-within, run-within, outside-within; WordLaws word-within; TrimLaws
@@ -32,11 +33,20 @@
 --                      behind a backtick;
 --                      LineLaws not-line-ending-end: a line ends before a line ending, space0-starts, space0-free: what spaces and
 --                      tabs at the front begin with and lack; TagLaws starts-append, starts-space
---   lists and tests    Lists part-from, drop-end, drop-next, drop-two, drop-last: parts of a list; TestLaws by-test, by-test₂, lt-or-le: what
---                      a test picks
---   appending          LineLaws body-drop; on s ++ 10 ∷ t: DomainLaws outside-lf; WordLaws word-lf; EscapedLaws refused-lf, taken-lf,
---                      open-lf; LineLaws newline-lf, line-ending-lf, not-line-ending-lf, space0-lf, space1-lf; TagLaws starts-lf; with
---                      another byte than LF between: DomainLaws char-low, run-low; WordLaws word-ended; TagLaws starts-byte
+--   at a place         by the code's tests: EscapedLaws at-end, at-plain, at-stop, at-alone, at-pair, at-wrong: one step of `taking`;
+--                      first-other: where `escapedOf` begins; LineLaws bytes-end, bytes-pass, bytes-stop: one step of a run of bytes,
+--                      which bytes-count says is the same counted from any number; space1-none, space1-some: there is no space or
+--                      tab, or one; ending-lf: LF is a line ending; multispace-cases: which bytes are white space
+--   answers            EscapedLaws taken-is: equal answers take as many bytes; refused-taken: none is both taken and refused
+--   without two bytes  where a text has neither: EscapedLaws free-next: its first byte is neither, nor has the rest one; free-more:
+--                      nor has it with such a byte in front; free-drop, free-take: nor have its parts; TagLaws starts-free: nor what it
+--                      begins with
+--   lists and tests    Lists part-from, drop-end, drop-next, drop-two, drop-last: parts of a list; TestLaws picks-first,
+--                      picks-second, by-test, by-test₂, lt-or-le: what a test picks
+--   appending          LineLaws body-drop; bytes-append: a run is the same with a byte behind it that does not pass; on s ++ 10 ∷ t:
+--                      DomainLaws outside-lf; WordLaws word-lf; EscapedLaws refused-lf, taken-lf, open-lf; LineLaws newline-lf,
+--                      line-ending-lf, not-line-ending-lf, space0-lf, space1-lf; TagLaws starts-lf; with another byte than LF between:
+--                      DomainLaws char-low, run-low; WordLaws word-ended; TagLaws starts-byte
 pub mod Tests
 pub mod Domain
 pub mod Word
@@ -45,3 +55,4 @@ pub mod Escaped
 pub mod Line
 pub mod Tag
 pub mod Appending
+pub mod Inner

@@ -3,8 +3,8 @@
 -- Assumes nothing.
 use Prim.Native.Nat.{ℕ}
 use mathlib.Core.List.{List, [], _∷_}
-use mathlib.Core.Bool.{Bool, true, false, _&&_, _||_}
-use lib.Dec.{leb, ltb, eqb}
+use mathlib.Core.Bool.{Bool, false, _||_}
+use lib.Dec.{eqb}
 use Rattle.rst_bytes.specs.Tests.{between}
 use Rattle.rst_bytes.specs.Domain.{run}
 
@@ -23,13 +23,6 @@ unfoldable pub inRanges : ℕ → List ℕ → Bool
 inRanges c [] = false
 inRanges c (a ∷ []) = false
 inRanges c (a ∷ z ∷ rest) = between a z c || inRanges c rest
-
--- each range is in order, and ends below the next
-unfoldable pub apart : List ℕ → Bool
-apart [] = true
-apart (a ∷ []) = true
-apart (a ∷ z ∷ []) = leb a z
-apart (a ∷ z ∷ b ∷ rest) = leb a z && (ltb z b && apart (b ∷ rest))
 
 unfoldable pub isWord : ℕ → Bool
 isWord c = isAsciiWord c || inRanges c wordRanges

@@ -3,7 +3,8 @@ use crate::Character;
 use crate::Outside;
 ghost use mathlib.Core.Path.{_≡_};
 ghost use lib.ListN.{drop};
-ghost use Rattle.rst_bytes.specs.Domain.{isPair, charOf, isAscii, outsideOf};
+ghost use Rattle.rst_bytes.specs.Domain.{isPair, charOf, outsideOf};
+ghost use Rattle.rst_bytes.specs.Inner.{isAscii};
 
 // Whether two bytes are a character: C2 to C8 and 80 to BF, or C9 and 80 to 8F.
 fn is_pair(b: u8, c: u8) -> bool

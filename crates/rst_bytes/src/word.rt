@@ -3,7 +3,8 @@ use crate::Character;
 use crate::domain::char_at;
 ghost use mathlib.Core.Path.{_≡_};
 ghost use lib.Dec.{T};
-ghost use Rattle.rst_bytes.specs.Word.{apart, inRanges, isAsciiWord, isWord, wordOf};
+ghost use Rattle.rst_bytes.specs.Word.{inRanges, isAsciiWord, isWord, wordOf};
+ghost use Rattle.rst_bytes.specs.Inner.{apart};
 
 // The word characters above 7F: the first and the last code point of each range.
 const WORD_RANGES: [u32; 16] = [

@@ -2,6 +2,7 @@
 //! the document call accepts.
 
 use crate::whole::Areas;
+use compare::files::texts;
 use driver::document::DOCUMENT_MAX;
 use std::fs;
 use std::path::{Path, PathBuf};
@@ -15,7 +16,7 @@ pub struct Note {
 /// All of them, in the order of their files' names; none where there is no folder.
 pub fn notes(folder: &Path, areas: &mut Areas) -> Vec<Note> {
     let mut notes = Vec::new();
-    for file in files(folder) {
+    for file in texts(folder) {
         let text = fs::read(&file).expect("a readable file");
         for doc in cut(&text, areas) {
             notes.push(Note {
@@ -25,22 +26,6 @@ pub fn notes(folder: &Path, areas: &mut Areas) -> Vec<Note> {
         }
     }
     notes
-}
-
-fn files(folder: &Path) -> Vec<PathBuf> {
-    let Ok(entries) = fs::read_dir(folder) else {
-        return Vec::new();
-    };
-    let mut paths: Vec<_> = entries
-        .map(|entry| entry.expect("an entry").path())
-        .collect();
-    paths.sort();
-    let texts = |path: PathBuf| match path.extension() {
-        _ if path.is_dir() => files(&path),
-        Some(kind) if kind == "txt" || kind == "rst" => vec![path],
-        _ => Vec::new(),
-    };
-    paths.into_iter().flat_map(texts).collect()
 }
 
 /// Documents of as many paragraphs as one may have; a paragraph that none may have

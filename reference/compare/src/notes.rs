@@ -6,10 +6,11 @@
 //! into as many of them together as have room.
 
 use crate::test::Count;
+use compare::files::texts;
 use driver::document::DOCUMENT_MAX;
 use driver::pieces::SCALARS;
 use std::fs;
-use std::path::{Path, PathBuf};
+use std::path::Path;
 
 const FOLDER: &str = concat!(env!("CARGO_MANIFEST_DIR"), "/../../target/reference/notes");
 
@@ -18,32 +19,13 @@ const LENGTHS: [usize; 5] = [1, 300, 1_000, 4_000, DOCUMENT_MAX];
 
 /// The documents. Where the texts were not fetched it says so.
 pub fn documents(count: &mut Count) -> Option<Vec<Vec<u8>>> {
-    let mut files = Vec::new();
-    find(Path::new(FOLDER), &mut files);
-    files.sort();
+    let files = texts(Path::new(FOLDER));
     if files.is_empty() {
         count.say("real notes: skipped, there are none here");
         return None;
     }
-    let texts = files.iter().map(|file| read(file));
-    Some(texts.flat_map(|text| all_cuts(&text)).collect())
-}
-
-/// The texts in a folder and those below it.
-fn find(folder: &Path, files: &mut Vec<PathBuf>) {
-    let Ok(entries) = fs::read_dir(folder) else {
-        return;
-    };
-    for path in entries.map(|entry| entry.expect("an entry of the notes").path()) {
-        let is_text = path.extension().is_some_and(|e| e == "txt" || e == "rst");
-        if path.is_symlink() {
-            continue;
-        } else if path.is_dir() {
-            find(&path, files);
-        } else if is_text {
-            files.push(path);
-        }
-    }
+    let cuts = files.iter().flat_map(|file| all_cuts(&read(file)));
+    Some(cuts.collect())
 }
 
 /// A text with its characters brought into the domain.

@@ -5,7 +5,7 @@
 use Prim.Native.Nat.{_+_, _-_}
 use native.Mathlib.Omega.{arith}
 use mathlib.Core.Path.{sym, _∙_}
-use Rattle.iterator.proofs.WalkLaws.{row-same, row-within}
+use Rattle.iterator.proofs.LookupLaws.{row-same, row-within}
 use Rattle.iterator.proofs.IndexLaws.{Seeking, seeking-start, seeking-more, earlier-less, seeking-end}
 use Rattle.iterator.proofs.resolve.destination_by_index.Statement.{statement}
 use Rattle.iterator.proofs.resolve.destination_by_index.Tie as tie

@@ -7,7 +7,7 @@ use mathlib.Core.Path.{_≡_, refl, ap, sym, _∙_}
 use Rattle.restructured_text.specs.Strings.{part}
 use Rattle.iterator.specs.Rows.{pairsOf, destinationsAt}
 use Rattle.iterator.specs.Resolve.{lookup}
-use Rattle.iterator.proofs.WalkLaws.{row-same, row-other, row-within}
+use Rattle.iterator.proofs.LookupLaws.{row-same, row-other, row-within}
 use Rattle.iterator.proofs.resolve.destination_of.Statement.{statement}
 use Rattle.iterator.proofs.resolve.destination_of.Tie as tie
 

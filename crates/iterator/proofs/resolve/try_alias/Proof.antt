@@ -2,7 +2,7 @@
 -- Assumes nothing.
 use native.Mathlib.Omega.{arith}
 use borrow.Author.Needs.{needs}
-use Rattle.iterator.proofs.WalkLaws.{tried-small, tried-lookable, stored-small, passed, stored}
+use Rattle.iterator.proofs.TriedLaws.{tried-small, tried-lookable, stored-small, passed, stored}
 use Rattle.iterator.proofs.resolve.try_alias.Statement.{statement}
 use Rattle.iterator.proofs.resolve.try_alias.Tie as tie
 

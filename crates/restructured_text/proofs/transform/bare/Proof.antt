@@ -8,7 +8,7 @@ use lib.ListN.{length, drop}
 use borrow.Author.Needs.{needs}
 use Rattle.rst_bytes.specs.Line.{bytesFrom}
 use Rattle.rst_bytes.proofs.LineLaws.{bytes-end, bytes-pass, bytes-stop}
-use Rattle.restructured_text.specs.Transform.{isBare}
+use Rattle.restructured_text.specs.Inner.{isBare}
 use Rattle.restructured_text.proofs.transform.bare.Statement.{statement}
 use Rattle.restructured_text.proofs.transform.bare.Tie as tie
 

@@ -1,12 +1,12 @@
 -- `transform::is_bare` meets its contract: no whitespace is above 20, and no backslash below 21.
 -- Assumes nothing.
-use mathlib.Core.Path.{ap, _∙_}
+use mathlib.Core.Path.{ap}
 use mathlib.Core.Bool.{not, or-false}
 use native.Mathlib.Omega.{arith}
 use borrow.Author.Needs.{needs}
-use borrow.Author.Tests.{eq-eqb, ne-eqb}
+use borrow.Author.Tests.{ne-eqb}
 use Rattle.rst_bytes.specs.Line.{isMultispace}
-use Rattle.restructured_text.specs.Transform.{isBare}
+use Rattle.restructured_text.specs.Inner.{isBare}
 use Rattle.restructured_text.proofs.transform.is_bare.Statement.{statement}
 use Rattle.restructured_text.proofs.transform.is_bare.Tie as tie
 

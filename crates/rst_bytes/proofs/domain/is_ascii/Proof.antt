@@ -8,7 +8,7 @@ use native.Mathlib.Omega.{arith}
 use borrow.Author.Needs.{needs}
 use lib.Dec.{ltb}
 use lib.ListN.{length, drop}
-use Rattle.rst_bytes.specs.Domain.{isAscii}
+use Rattle.rst_bytes.specs.Inner.{isAscii}
 use Rattle.rst_bytes.proofs.DomainLaws.{ascii-same, ascii-more, ascii-end}
 use Rattle.rst_bytes.proofs.domain.is_ascii.Statement.{statement}
 use Rattle.rst_bytes.proofs.domain.is_ascii.Tie as tie

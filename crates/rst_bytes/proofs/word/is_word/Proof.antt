@@ -2,7 +2,8 @@
 -- Assumes nothing.
 use mathlib.Core.Path.{sym, _∙_}
 use borrow.Author.Needs.{needs}
-use Rattle.rst_bytes.specs.Word.{apart, wordRanges}
+use Rattle.rst_bytes.specs.Word.{wordRanges}
+use Rattle.rst_bytes.specs.Inner.{apart}
 use Rattle.rst_bytes.proofs.WordLaws.{word-low, word-high}
 use Rattle.rst_bytes.proofs.word.is_word.Statement.{statement}
 use Rattle.rst_bytes.proofs.word.is_word.Tie as tie
