@@ -14,7 +14,8 @@ use Rattle.restructured_text.specs.declared.Strings.the-variants.{Found}
 use Rattle.restructured_text.specs.declared.target.Definition.{Definition}
 use Rattle.restructured_text.specs.Strings.{Link, link, none, part, stringsOf, lent}
 use Rattle.restructured_text.specs.Inline.{text2destOf, textLabel2destOf, text2labelOf}
-use Rattle.restructured_text.specs.Target.{label2destOf, label2labelOf, aliasIn, destinationIn}
+use Rattle.restructured_text.specs.Target.{label2destOf, label2labelOf}
+use Rattle.restructured_text.specs.Definition.{aliasIn, destinationIn}
 use Rattle.restructured_text.proofs.PartLaws.{part-front, put-before}
 use Rattle.restructured_text.proofs.StringsLaws.{lent-enough}
 use Rattle.restructured_text.proofs.TargetLaws.{label2dest-consumed}

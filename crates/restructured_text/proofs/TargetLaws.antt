@@ -5,7 +5,7 @@ use Prim.Native.Nat.{ℕ, zero, suc, _+_, _<_, _≤_}
 use native.Mathlib.Omega.{arith}
 use mathlib.Core.Path.{_≡_, refl, sym, ap, subst, subst⁻¹, _∙_}
 use mathlib.Core.List.{List, [], _∷_, _++_}
-use mathlib.Core.Bool.{Bool, true, false, not, _&&_, _||_, false≢true, true≢false}
+use mathlib.Core.Bool.{Bool, true, false, not, _&&_, _||_, false≢true}
 use mathlib.Core.Logic.{_⊎_, inl, inr, ⊎-elim}
 use lib.ListN.{length, drop, take, set, length-take, length-drop}
 use lib.Seq.{take-length, drop-drop}
@@ -42,9 +42,10 @@ use Rattle.restructured_text.specs.Label.{simpleLabelOf}
 use Rattle.restructured_text.specs.Block.{startOf, furtherOf, linesOf, BlockText, block, no-block, no-scratch, withLines, blockOf, blockIn, lentBlock}
 use Rattle.restructured_text.specs.Transform.{Given, whole, refused, textOf, destinationOf, answerOf, bytesOf, over}
 use Rattle.restructured_text.specs.Strings.{Link, link, none, no-room, part, paired, linked, stringsOf, Ends, lent}
-use Rattle.restructured_text.specs.Target.{plainNameOf, nameOf, labelIn, restOf, isNamed, excluded, behindName, parseLabel2targetOf, namedIn, namedOf, anonymousIn, anonymousOf, anonymousBlockOf, label2targetOf, label2destOf, label2labelOf, startsTarget, aliasIn, destinationIn, askedOf, toldAs, rawIn, rawOf}
+use Rattle.restructured_text.specs.Target.{plainNameOf, nameOf, labelIn, restOf, isNamed, excluded, behindName, parseLabel2targetOf, namedIn, namedOf, anonymousIn, anonymousOf, anonymousBlockOf, label2targetOf, label2destOf, label2labelOf, startsTarget}
+use Rattle.restructured_text.specs.Definition.{aliasIn, destinationIn, askedOf, toldAs, rawIn, rawOf}
 use Rattle.rst_bytes.proofs.Lists.{part-from}
-use Rattle.rst_bytes.proofs.TestLaws.{lt-or-le}
+use Rattle.rst_bytes.proofs.TestLaws.{lt-or-le, neither}
 use Rattle.rst_bytes.proofs.TagLaws.{starts-append}
 use Rattle.restructured_text.proofs.DelimitedLaws.{delimited-none, delimited-within}
 use Rattle.restructured_text.proofs.LabelLaws.{Standing, simple-standing}
@@ -724,10 +725,6 @@ other-none label text n e =
     (parse-none label text
     (name-plain text (delimited-none _ 0x60 0x60 _ text (starts-append (0x5F ∷ []) (0x60 ∷ []) text ∙ ap (λ (b : Bool). b && startsWith (0x60 ∷ []) (drop 1 text)) e))
     ∙ plain-none text (delimited-none _ 0x3A 0x3A _ text e)))
-
-neither : (a b : Bool) → (a || b) ≡ false → (a ≡ false) × (b ≡ false)
-neither false b e = (refl, e)
-neither true b e = absurd (true≢false e)
 
 module _ (label : Bool) (s : List ℕ) (e : startsTarget s ≡ false) where
   start : List ℕ

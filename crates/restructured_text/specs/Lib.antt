@@ -14,7 +14,7 @@
 --                label2targetOf       target::rst_label2target                           a target block
 --                label2destOf         target::rst_label2dest                             one with a destination
 --                label2labelOf        target::rst_label2label                            one with an alias
---                both of these        target::rst_target                                 one with either, read once
+--                both of these        target::rst_target                                 one with either, read once (Definition)
 -- Delimited says what a part between two tags is. Strings says what an answer means with the scratch as the parser left it, and
 -- that a scratch as long as the input is enough and is asked for; the strings then end within as many bytes of it as are consumed
 -- (Ends, part of each contract). Inner is what the contracts of private functions speak of.
@@ -50,5 +50,6 @@ pub mod Strings
 pub mod Inline
 pub mod Block
 pub mod Target
+pub mod Definition
 pub mod Calm
 pub mod Inner

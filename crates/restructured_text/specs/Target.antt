@@ -18,11 +18,6 @@ use Rattle.restructured_text.specs.declared.target.Name.{Name}
 use Rattle.restructured_text.specs.declared.target.Name.the-variants.{Is, NoName}
 use Rattle.restructured_text.specs.declared.target.Rest.{Rest}
 use Rattle.restructured_text.specs.declared.target.Rest.the-variants.{Target, NoTarget}
-use Rattle.restructured_text.specs.declared.target.Raw.{Raw}
-use Rattle.restructured_text.specs.declared.target.Definition.{Definition}
-use Rattle.restructured_text.specs.declared.target.Definition.the-variants.{Alias, Destination, NoDefinition, Unread}
-use Rattle.restructured_text.specs.declared.Strings.{Strings}
-use Rattle.restructured_text.specs.declared.Strings.the-variants.{Found, NotFound, NoRoom}
 use Rattle.restructured_text.specs.Delimited.{delimitedOf}
 use Rattle.restructured_text.specs.Label.{simpleLabelOf}
 use Rattle.restructured_text.specs.Block.{BlockText, block, no-block, no-scratch, blockOf}
@@ -120,36 +115,3 @@ label2labelOf s = label2targetOf true s
 unfoldable pub startsTarget : List ℕ → Bool
 startsTarget s =
     startsWith (0x2E ∷ 0x2E ∷ 0x20 ∷ 0x5F ∷ []) (drop (space0Of s) s) || startsWith (0x5F ∷ 0x5F ∷ 0x20 ∷ []) (drop (space0Of s) s)
-
--- A reader of either target gives both at once: what its answer says of an alias and of a destination. No block is both.
-abbrev pub aliasIn : Definition → Strings
-aliasIn (Alias a b n) = Found a b n
-aliasIn (Destination a b n) = NotFound
-aliasIn NoDefinition = NotFound
-aliasIn Unread = NoRoom
-
-abbrev pub destinationIn : Definition → Strings
-destinationIn (Alias a b n) = NotFound
-destinationIn (Destination a b n) = Found a b n
-destinationIn NoDefinition = NotFound
-destinationIn Unread = NoRoom
-
--- For private contracts: the answer when one of them was looked for, ..
-abbrev pub askedOf : Bool → Definition → Strings
-askedOf true x = aliasIn x
-askedOf false x = destinationIn x
-
--- .. what was found as an alias's or as a destination's, ..
-abbrev pub toldAs : Bool → Strings → Definition
-toldAs true (Found a b n) = Alias a b n
-toldAs false (Found a b n) = Destination a b n
-toldAs alias NotFound = NoDefinition
-toldAs alias NoRoom = Unread
-
--- .. and which of them the rest has: "an alias (the rest begins with a simple label; ..) or a destination (it doesn't)"
-abbrev pub rawIn : List ℕ → SimpleLabel → Raw
-rawIn s (Named label n) = record { alias = true; start = label .start; len = label .len }
-rawIn s NoLabel = record { alias = false; start = 0; len = length s }
-
-unfoldable pub rawOf : List ℕ → Raw
-rawOf s = rawIn s (simpleLabelOf s)

@@ -29,12 +29,8 @@ ghost use Rattle.restructured_text.specs.Target.{
   label2destOf,
   label2labelOf,
   startsTarget,
-  rawOf,
-  aliasIn,
-  destinationIn,
-  toldAs,
-  askedOf,
 };
+ghost use Rattle.restructured_text.specs.Definition.{aliasIn, destinationIn, askedOf, toldAs, rawOf};
 
 // A name and how many bytes it takes with what stands around it, or that there is none.
 pub enum Name {

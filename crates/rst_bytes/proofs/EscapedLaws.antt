@@ -9,15 +9,15 @@ use mathlib.Core.Logic.{_⊎_, inl, inr, ⊎-elim}
 use native.Mathlib.Nat.{not-suc-le-zero, suc-ne-zero, sub-self}
 use native.Mathlib.Omega.{arith}
 use lib.Dec.{eqb}
-use lib.ListN.{length, getD, drop, take, length-append, take-append-drop}
-use lib.Seq.{take-nil, length-take-le}
+use lib.ListN.{length, getD, drop, take, length-append, length-drop, take-append-drop}
+use lib.Seq.{take-nil, length-take-le, drop-drop}
 use borrow.Author.Tests.{eq-eqb, ne-eqb, eqb-true}
 use Rattle.rst_bytes.specs.declared.Part.{Part}
 use Rattle.rst_bytes.specs.declared.Part.the-variants.{Taken, Refused}
 use Rattle.rst_bytes.specs.Escaped.{isEscapable, isStop, taking, escapedOf}
 use Rattle.rst_bytes.specs.Appending.{free}
-use Rattle.rst_bytes.proofs.Lists.{drop-next, drop-two, drop-last, drop-end}
-use Rattle.rst_bytes.proofs.TestLaws.{by-test, by-test₂, or-cases}
+use Rattle.rst_bytes.proofs.Lists.{drop-next, drop-two, drop-last, drop-end, part-from}
+use Rattle.rst_bytes.proofs.TestLaws.{by-test, by-test₂, or-cases, neither}
 
 -- a backslash refuses, if it is the last byte
 alone : (p q n b : ℕ) → eqb b 0x5C ≡ true → taking p q false n (b ∷ []) ≡ Refused
@@ -371,6 +371,34 @@ free-next p q b l h = go (isStop p q b) refl h
     go : (t : Bool) → isStop p q b ≡ t → elim t [ true ↦ false | false ↦ free p q l ] ≡ true → (isStop p q b ≡ false) × (free p q l ≡ true)
     go true e f = absurd (false≢true f)
     go false e f = (e, f)
+
+no-slash : (b : ℕ) → isStop 0x5C 0x5C b ≡ false → eqb b 0x5C ≡ false
+unfolding isStop
+no-slash b e = neither (eqb b 0x5C) (eqb b 0x5C) e .0
+
+-- bytes at the front that are no backslash, p or q are taken, i of them after n
+passed : (p q i : ℕ) (s : List ℕ) (n m : ℕ) → i ≤ length s → n + i ≡ m → free p q (take i s) ≡ true → free 0x5C 0x5C (take i s) ≡ true → taking p q false n s ≡ taking p q false m (drop i s)
+passed p q zero s n m h e f g =
+    let z : n ≡ m = omega arith in
+    ap (λ (k : ℕ). taking p q false k s) z
+passed p q (suc i) [] n m h e f g = absurd (not-suc-le-zero h)
+passed p q (suc i) (b ∷ rest) n m h e f g =
+    let w = free-next p q b (take i rest) f in
+    let v = free-next 0x5C 0x5C b (take i rest) g in
+    plain p q n b rest (no-slash b (v .0)) (w .0) ∙ passed p q i rest (n + 1) m (omega arith) (omega arith) (w .1) (v .1)
+
+-- the same behind k bytes, r of them, by what the code has
+pub taking-passed :
+    (p q : ℕ) (s : List ℕ) (k r : ℕ) → k ≤ length s → r ≤ length (take (length s - k) (drop k s))
+    → (free p q (take r (take (length s - k) (drop k s))) ≡ true) × (free 0x5C 0x5C (take r (take (length s - k) (drop k s))) ≡ true)
+    → (k + r ≤ length s) × (taking p q false k (drop k s) ≡ taking p q false (k + r) (drop (k + r) s))
+taking-passed p q s k r g h f =
+    let i : take (length s - k) (drop k s) ≡ drop k s = part-from s k in
+    let l : r ≤ length (drop k s) = omega (arith, h, ap length i) in (
+      omega (arith, l, length-drop k s),
+      passed p q r (drop k s) k (k + r) l refl (subst (λ (v : List ℕ). free p q (take r v) ≡ true) i (f .0)) (subst (λ (v : List ℕ). free 0x5C 0x5C (take r v) ≡ true) i (f .1))
+          ∙ ap (taking p q false (k + r)) (drop-drop r k s),
+    )
 
 -- one byte more in front of it
 pub free-more : (p q b : ℕ) (l : List ℕ) → isStop p q b ≡ false → free p q l ≡ true → free p q (b ∷ l) ≡ true

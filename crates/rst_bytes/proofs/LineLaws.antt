@@ -17,7 +17,8 @@ use Rattle.rst_bytes.specs.Line.{startsLf, newlineOf, lineEndingOf, line
 use Rattle.rst_bytes.specs.Escaped.{isStop}
 use Rattle.rst_bytes.specs.Appending.{free, endsInCr, startsSpace, Body}
 use Rattle.rst_bytes.proofs.Lists.{drop-next, drop-two, drop-last, drop-end}
-use Rattle.rst_bytes.proofs.TestLaws.{by-test, by-test₂, or-cases}
+use Rattle.rst_bytes.proofs.EscapedLaws.{free-next}
+use Rattle.rst_bytes.proofs.TestLaws.{by-test, by-test₂, or-cases, neither}
 
 -- The two line endings.
 module _ (b : ℕ) (l : List ℕ) where
@@ -103,6 +104,24 @@ module _ (n b : ℕ) (l : List ℕ) where
   step-plain : eqb b 10 ≡ false → eqb b 13 ≡ false → lineFrom n (b ∷ l) ≡ lineFrom (n + 1) l
   unfolding lineFrom
   step-plain e f = simp (e, f, lineFrom)
+
+apart : (b : ℕ) → isStop 10 13 b ≡ false → (eqb b 10 ≡ false) × (eqb b 13 ≡ false)
+unfolding isStop
+apart b e = neither (eqb b 10) (eqb b 13) e
+
+-- bytes at the front that are neither LF nor CR are passed, i of them after n
+passed : (i : ℕ) (s : List ℕ) (n m : ℕ) → i ≤ length s → n + i ≡ m → free 10 13 (take i s) ≡ true → lineFrom n s ≡ lineFrom m (drop i s)
+passed zero s n m h e f =
+    let z : n ≡ m = omega arith in
+    ap (λ (k : ℕ). lineFrom k s) z
+passed (suc i) [] n m h e f = absurd (not-suc-le-zero h)
+passed (suc i) (b ∷ rest) n m h e f =
+    let w = free-next 10 13 b (take i rest) f in
+    let v = apart b (w .0) in
+    step-plain n b rest (v .0) (v .1) ∙ passed i rest (n + 1) m (omega arith) (omega arith) (w .1)
+
+pub line-skipped : (s : List ℕ) (i : ℕ) → i ≤ length s → free 10 13 (take i s) ≡ true → lineFrom 0 s ≡ lineFrom i (drop i s)
+line-skipped s i h f = passed i s 0 i h (omega arith) f
 
 -- The same at a position of a text, by the code's tests.
 module _ (s : List ℕ) (i : ℕ) where

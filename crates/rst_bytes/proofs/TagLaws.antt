@@ -29,11 +29,6 @@ module _ (s t : List ℕ) (i : ℕ) where
   tag-done h = rw (drop-end t i h) (starts-nil (drop i s))
 
   module _ (h : i < length t) where
-    -- the text ends too early
-    pub tag-short : length s ≤ i → startsWith (drop i t) (drop i s) ≡ false
-    unfolding startsWith
-    tag-short g = rw (drop-next t i h, drop-end s i g) refl
-
     module _ (g : i < length s) where
       -- another byte
       pub tag-other : (getD s i 0 ≡ getD t i 0 → ⊥) → startsWith (drop i t) (drop i s) ≡ false
@@ -55,6 +50,14 @@ starts-le (c ∷ t) (b ∷ s) e = go (eqb b c) refl (starts-le t s) e
     go : (x : Bool) → eqb b c ≡ x → (startsWith t s ≡ true → length t ≤ length s) → elim x [ true ↦ startsWith t s | false ↦ false ] ≡ true → suc (length t) ≤ suc (length s)
     go true f ih g = let w = ih g in omega arith
     go false f ih g = absurd (false≢true g)
+
+-- so a shorter one does not begin with it
+pub starts-shorter : (t s : List ℕ) → length s < length t → startsWith t s ≡ false
+starts-shorter t s h = go (startsWith t s) refl
+  where
+    go : (x : Bool) → startsWith t s ≡ x → startsWith t s ≡ false
+    go true e = absurd (omega (arith, starts-le t s e))
+    go false e = e
 
 -- to begin with two lists, one behind the other
 pub starts-append : (t u s : List ℕ) → startsWith (t ++ u) s ≡ (startsWith t s && startsWith u (drop (length t) s))

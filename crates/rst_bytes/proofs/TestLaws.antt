@@ -2,7 +2,7 @@
 -- Assumes nothing.
 use mathlib.Core.Path.{_≡_, refl}
 use mathlib.Core.Logic.{_⊎_, inl, inr}
-use mathlib.Core.Bool.{Bool, true, false, _||_}
+use mathlib.Core.Bool.{Bool, true, false, _&&_, _||_, true≢false}
 use Prim.Native.Nat.{ℕ, _<_, _≤_}
 use lib.Dec.{ltb}
 use borrow.Author.Tests.{ltb-true, ltb-false}
@@ -30,6 +30,20 @@ module _ {A : Type 0} where
 pub or-cases : (a b : Bool) → (a || b) ≡ true → (a ≡ true) ⊎ (b ≡ true)
 or-cases true b e = inl refl
 or-cases false b e = inr e
+
+-- neither of two tests holds
+pub neither : (a b : Bool) → (a || b) ≡ false → (a ≡ false) × (b ≡ false)
+neither false b e = (refl, e)
+neither true b e = absurd (true≢false e)
+
+-- with one that does not hold two do not both hold; with one that holds they do if the other does
+pub and-missed : (a b : Bool) → b ≡ false → (a && b) ≡ false
+and-missed true b e = e
+and-missed false b e = refl
+
+pub and-kept : (a b : Bool) → b ≡ true → (a && b) ≡ a
+and-kept true b e = e
+and-kept false b e = refl
 
 -- of two numbers the first is below the second, or not
 pub lt-or-le : (a b : ℕ) → (a < b) ⊎ (b ≤ a)

@@ -17,7 +17,7 @@
 --             isMultispace     line::is_multispace      space, tab, CR, LF
 --             multispace0Of    line::multispace0        a run of these
 --   Tag       startsWith       tag::tag                 given bytes at the front
---   Appending Body, Tail, free                          what the laws on appended text speak of
+--   Appending Body, Tail, free                          what the laws on appended text speak of; free in private contracts too
 -- Inner is what the contracts of private functions speak of.
 --
 -- Laws, proved in the file of proofs/ that is named, for the layers above:
@@ -42,7 +42,7 @@
 --                      nor has it with such a byte in front; free-drop, free-take: nor have its parts; TagLaws starts-free: nor what it
 --                      begins with
 --   lists and tests    Lists part-from, drop-end, drop-next, drop-two, drop-last: parts of a list; TestLaws picks-first,
---                      picks-second, by-test, by-test₂, lt-or-le: what a test picks
+--                      picks-second, by-test, by-test₂, lt-or-le, neither: what a test picks
 --   appending          LineLaws body-drop; bytes-append: a run is the same with a byte behind it that does not pass; on s ++ 10 ∷ t:
 --                      DomainLaws outside-lf; WordLaws word-lf; EscapedLaws refused-lf, taken-lf, open-lf; LineLaws newline-lf,
 --                      line-ending-lf, not-line-ending-lf, space0-lf, space1-lf; TagLaws starts-lf; with another byte than LF between:

@@ -1,8 +1,10 @@
 // `escaped`: a part up to a stop byte, in which a backslash takes the byte after it along.
 use crate::Part;
+use crate::free::free_front;
+use crate::free::is_stop;
 ghost use mathlib.Core.Path.{_≡_};
 ghost use mathlib.Core.Bool.{false};
-ghost use Rattle.rst_bytes.specs.Escaped.{isEscapable, isStop, taking, escapedOf};
+ghost use Rattle.rst_bytes.specs.Escaped.{isEscapable, taking, escapedOf};
 
 // ESCAPABLE: space, backtick, ':', '<', '>', '_', backslash.
 pub fn is_escapable(b: u8) -> bool
@@ -12,35 +14,38 @@ pub fn is_escapable(b: u8) -> bool
         || (b == b'`' || (b == b':' || (b == b'<' || (b == b'>' || (b == b'_' || b == b'\\')))))
 }
 
-fn is_stop(p: u8, q: u8, b: u8) -> bool
-    ensures { λ r. ⌜ r ≡ isStop p q b ⌝ }
-{
-    b == p || b == q
-}
-
-// The part up to p or q, whatever the first byte is.
+// The part up to p or q, whatever the first byte is. Bytes that may be taken at once are looked for first, and then after 16 steps
+// again.
 fn take_escaped(s: &[u8], p: u8, q: u8) -> Part
     ensures { λ r. ⌜ r ≡ taking p q false 0 (now (s .entry)) ⌝ }
 {
     let mut i = 0;
+    let mut wait: usize = 0;
     while i < s.len() {
-        let b = s[i];
-        if b == b'\\' {
-            let j = i + 1;
-            if s.len() <= j {
-                return Part::Refused;
-            }
-            let e = s[j];
-            if is_escapable(e) {
-                i = i + 2;
-            } else {
-                return Part::Refused;
-            }
+        if wait == 0 {
+            i = i + free_front(&s[i..], p, q, b'\\');
+            wait = 16;
         } else {
-            if is_stop(p, q, b) {
-                return Part::Taken(i);
+            let b = s[i];
+            if b == b'\\' {
+                let j = i + 1;
+                if s.len() <= j {
+                    return Part::Refused;
+                }
+                let e = s[j];
+                if is_escapable(e) {
+                    i = i + 2;
+                    wait = wait - 1;
+                } else {
+                    return Part::Refused;
+                }
+            } else {
+                if is_stop(p, q, b) {
+                    return Part::Taken(i);
+                }
+                i = i + 1;
+                wait = wait - 1;
             }
-            i = i + 1;
         }
     }
     Part::Taken(i)

@@ -5,6 +5,7 @@
 // specs/.
 pub mod domain;
 pub mod escaped;
+mod free;
 pub mod line;
 pub mod tag;
 pub mod trim;

@@ -1,5 +1,6 @@
 // Line ends and blanks: `newline`, `line_ending`, `not_line_ending`, `space0`, `space1`, `multispace0`.
 use crate::Part;
+use crate::free::free_front;
 ghost use mathlib.Core.Path.{_≡_};
 ghost use Rattle.rst_bytes.specs.Line.{
   isSpace,
@@ -54,7 +55,7 @@ pub fn line_ending(s: &[u8]) -> Part
 pub fn not_line_ending(s: &[u8]) -> Part
     ensures { λ r. ⌜ r ≡ notLineEndingOf (now (s .entry)) ⌝ }
 {
-    let mut i = 0;
+    let mut i = free_front(s, b'\n', b'\r', b'\r');
     while i < s.len() {
         let b = s[i];
         if b == b'\n' {

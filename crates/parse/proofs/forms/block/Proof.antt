@@ -5,7 +5,7 @@ use mathlib.Core.Path.{subst}
 use borrow.Author.Needs.{needs}
 use Rattle.restructured_text.specs.declared.target.Definition.{Definition}
 use Rattle.restructured_text.specs.Strings.{Ends}
-use Rattle.restructured_text.specs.Target.{aliasIn, destinationIn}
+use Rattle.restructured_text.specs.Definition.{aliasIn, destinationIn}
 use Rattle.restructured_text.proofs.TargetLaws.{label2label-room}
 use Rattle.parse.proofs.FormsLaws.{answered-both, block-alias, block-destination, block-nothing}
 use Rattle.parse.proofs.forms.block.Statement.{statement}

@@ -1,25 +1,60 @@
 -- `escaped::take_escaped` meets its contract. The loop's invariant: i is at most the length, and what is taken in all is what is
--- taken from i on, i bytes being taken. One law of `taking` at i for each way through the body. The measure is what is left.
+-- taken from i on, i bytes being taken. One law of `taking` at i for each way through the body. The measure is twice what is left, and one
+-- more where bytes are taken at once, for these may be none.
 -- Assumes nothing.
-use Prim.Native.Nat.{_≤_, _-_}
+use Prim.Native.Nat.{_≤_, _+_, _-_}
 use mathlib.Core.Bool.{false}
 use mathlib.Core.Path.{_≡_, refl, sym, _∙_}
 use native.Mathlib.Omega.{arith}
 use lib.ListN.{length, drop}
 use borrow.Author.Needs.{needs}
 use Rattle.rst_bytes.specs.Escaped.{taking}
-use Rattle.rst_bytes.proofs.EscapedLaws.{at-end, at-plain, at-stop, at-alone, at-pair, at-wrong}
+use Rattle.rst_bytes.proofs.EscapedLaws.{taking-passed, at-end, at-plain, at-stop, at-alone, at-pair, at-wrong}
 use Rattle.rst_bytes.proofs.escaped.take_escaped.Statement.{statement}
 use Rattle.rst_bytes.proofs.escaped.take_escaped.Tie as tie
 
 abbrev Inv-loop : tie.InvT-loop
-Inv-loop s p q i₀ i = (i ≤ length s) × (taking p q false 0 s ≡ taking p q false i (drop i s))
+Inv-loop s p q i₀ wait₀ i wait = (i ≤ length s) × (taking p q false 0 s ≡ taking p q false i (drop i s))
 
 abbrev μ-loop : tie.MeasureT-loop
-μ-loop s p q i₀ i = length s - i
+μ-loop s p q i₀ wait₀ i wait = (length s - i) + (length s - i) + (1 - wait)
 
 loop-holds : tie.Need-loop-holds Inv-loop μ-loop
 loop-holds c = (omega arith, refl)
+
+sub-free-front : tie.Need-sub-free-front Inv-loop μ-loop
+sub-free-front c = search needs
+
+part-free-front-start : tie.Need-part-free-front-start Inv-loop μ-loop
+part-free-front-start c = search needs
+
+part-free-front-end : tie.Need-part-free-front-end Inv-loop μ-loop
+part-free-front-end c = search needs
+
+free-front-requires : tie.Need-free-front-requires Inv-loop μ-loop
+free-front-requires c κs = search needs
+
+add-i : tie.Need-add-i Inv-loop μ-loop
+add-i c =
+    let s = c .before .before .before .before .before .before .args in
+    let l = c .before .before .before .before .loop in
+    let x = c .free-front in
+    omega (arith, taking-passed (s .p) (s .q) (s .s .now) (l .i) (x .result) (l .inv .0) (x .ensures .0) (x .ensures .1) .0)
+
+loop-less : tie.Need-loop-less Inv-loop μ-loop
+loop-less c =
+    let s = c .before .before .before .before .before .before .args in
+    let l = c .before .before .before .before .loop in
+    let x = c .free-front in
+    omega (arith, taking-passed (s .p) (s .q) (s .s .now) (l .i) (x .result) (l .inv .0) (x .ensures .0) (x .ensures .1) .0)
+
+loop-again : tie.Need-loop-again Inv-loop μ-loop
+loop-again c =
+    let s = c .before .before .before .before .before .before .args in
+    let l = c .before .before .before .before .loop in
+    let x = c .free-front in
+    let w = taking-passed (s .p) (s .q) (s .s .now) (l .i) (x .result) (l .inv .0) (x .ensures .0) (x .ensures .1) in
+    (w .0, l .inv .1 ∙ w .1)
 
 shared-slice-read-b : tie.Need-shared-slice-read-b Inv-loop μ-loop
 shared-slice-read-b c = search needs
@@ -29,9 +64,9 @@ add-j c = search needs
 
 returns : tie.Need-returns Inv-loop μ-loop
 returns c =
-    let s = c .before .before .before .before .before .before .args .s .now in
-    let i = c .before .before .before .before .loop .i in
-    sym (c .before .before .before .before .loop .inv .1 ∙ at-alone _ _ s i (omega arith) (omega arith) (c .before .if1 .taken))
+    let s = c .before .before .before .before .before .before .before .args .s .now in
+    let l = c .before .before .before .before .before .loop in
+    sym (l .inv .1 ∙ at-alone _ _ s (l .i) (omega arith) (omega arith) (c .before .if2 .taken))
 
 shared-slice-read-e : tie.Need-shared-slice-read-e Inv-loop μ-loop
 shared-slice-read-e c = search needs
@@ -39,50 +74,56 @@ shared-slice-read-e c = search needs
 is-escapable-requires : tie.Need-is-escapable-requires Inv-loop μ-loop
 is-escapable-requires c κs = search needs
 
-add-i : tie.Need-add-i Inv-loop μ-loop
-add-i c = search needs
-
-loop-less : tie.Need-loop-less Inv-loop μ-loop
-loop-less c = search needs
-
-loop-again : tie.Need-loop-again Inv-loop μ-loop
-loop-again c =
-    let s = c .before .before .before .before .before .before .before .before .before .args .s .now in
-    let i = c .before .before .before .before .before .before .before .loop .i in
-    (omega arith, c .before .before .before .before .before .before .before .loop .inv .1 ∙ at-pair _ _ s i (omega arith) (c .before .before .before .before .if1 .taken) (sym (c .before .is-escapable .ensures) ∙ c .if3 .taken))
-
-returns-2 : tie.Need-returns-2 Inv-loop μ-loop
-returns-2 c =
-    let s = c .before .before .before .before .before .before .before .before .before .args .s .now in
-    let i = c .before .before .before .before .before .before .before .loop .i in
-    sym (c .before .before .before .before .before .before .before .loop .inv .1 ∙ at-wrong _ _ s i (omega arith) (c .before .before .before .before .if1 .taken) (sym (c .before .is-escapable .ensures) ∙ c .if3 .left))
-
-is-stop-requires : tie.Need-is-stop-requires Inv-loop μ-loop
-is-stop-requires c κs = search needs
-
-returns-3 : tie.Need-returns-3 Inv-loop μ-loop
-returns-3 c =
-    let s = c .before .before .before .before .before .before .before .args .s .now in
-    let i = c .before .before .before .before .before .loop .i in
-    sym (c .before .before .before .before .before .loop .inv .1 ∙ at-stop _ _ s i (omega arith) (c .before .before .if1 .left) (sym (c .before .is-stop .ensures) ∙ c .if4 .taken))
-
 add-i-2 : tie.Need-add-i-2 Inv-loop μ-loop
 add-i-2 c = search needs
+
+sub-wait : tie.Need-sub-wait Inv-loop μ-loop
+sub-wait c = search needs
 
 loop-less-2 : tie.Need-loop-less-2 Inv-loop μ-loop
 loop-less-2 c = search needs
 
 loop-again-2 : tie.Need-loop-again-2 Inv-loop μ-loop
 loop-again-2 c =
-    let s = c .before .before .before .before .before .before .before .args .s .now in
-    let i = c .before .before .before .before .before .loop .i in
-    (omega arith, c .before .before .before .before .before .loop .inv .1 ∙ at-plain _ _ s i (omega arith) (c .before .before .if1 .left) (sym (c .before .is-stop .ensures) ∙ c .if4 .left))
+    let s = c .before .before .before .before .before .before .before .before .before .before .args .s .now in
+    let l = c .before .before .before .before .before .before .before .before .loop in
+    (omega arith, l .inv .1 ∙ at-pair _ _ s (l .i) (omega arith) (c .before .before .before .before .if2 .taken) (sym (c .before .is-escapable .ensures) ∙ c .if4 .taken))
+
+returns-2 : tie.Need-returns-2 Inv-loop μ-loop
+returns-2 c =
+    let s = c .before .before .before .before .before .before .before .before .before .before .args .s .now in
+    let l = c .before .before .before .before .before .before .before .before .loop in
+    sym (l .inv .1 ∙ at-wrong _ _ s (l .i) (omega arith) (c .before .before .before .before .if2 .taken) (sym (c .before .is-escapable .ensures) ∙ c .if4 .left))
+
+is-stop-requires : tie.Need-is-stop-requires Inv-loop μ-loop
+is-stop-requires c κs = search needs
+
+returns-3 : tie.Need-returns-3 Inv-loop μ-loop
+returns-3 c =
+    let s = c .before .before .before .before .before .before .before .before .args .s .now in
+    let l = c .before .before .before .before .before .before .loop in
+    sym (l .inv .1 ∙ at-stop _ _ s (l .i) (omega arith) (c .before .before .if2 .left) (sym (c .before .is-stop .ensures) ∙ c .if5 .taken))
+
+add-i-3 : tie.Need-add-i-3 Inv-loop μ-loop
+add-i-3 c = search needs
+
+sub-wait-2 : tie.Need-sub-wait-2 Inv-loop μ-loop
+sub-wait-2 c = search needs
+
+loop-less-3 : tie.Need-loop-less-3 Inv-loop μ-loop
+loop-less-3 c = search needs
+
+loop-again-3 : tie.Need-loop-again-3 Inv-loop μ-loop
+loop-again-3 c =
+    let s = c .before .before .before .before .before .before .before .before .args .s .now in
+    let l = c .before .before .before .before .before .before .loop in
+    (omega arith, l .inv .1 ∙ at-plain _ _ s (l .i) (omega arith) (c .before .before .if2 .left) (sym (c .before .is-stop .ensures) ∙ c .if5 .left))
 
 returns-4 : tie.Need-returns-4 Inv-loop μ-loop
 returns-4 c =
     let s = c .before .before .before .args .s .now in
-    let i = c .before .loop .i in
-    sym (c .before .loop .inv .1 ∙ at-end _ _ s i (omega arith))
+    let l = c .before .loop in
+    sym (l .inv .1 ∙ at-end _ _ s (l .i) (omega arith))
 
 pub take-escaped-spec : {M : Type 1} → statement M
 take-escaped-spec =
@@ -91,18 +132,27 @@ take-escaped-spec =
     Inv-loop
     μ-loop
     loop-holds
+    sub-free-front
+    part-free-front-start
+    part-free-front-end
+    free-front-requires
+    add-i
+    loop-less
+    loop-again
     shared-slice-read-b
     add-j
     returns
     shared-slice-read-e
     is-escapable-requires
-    add-i
-    loop-less
-    loop-again
+    add-i-2
+    sub-wait
+    loop-less-2
+    loop-again-2
     returns-2
     is-stop-requires
     returns-3
-    add-i-2
-    loop-less-2
-    loop-again-2
+    add-i-3
+    sub-wait-2
+    loop-less-3
+    loop-again-3
     returns-4)

@@ -1,9 +1,9 @@
--- `escaped::is_stop` meets its contract: the byte is p, or it is not and the answer is whether it is q.
+-- `free::is_stop` meets its contract: the byte is p, or it is not and the answer is whether it is q.
 -- Assumes nothing.
 use borrow.Author.Tests.{eq-eqb, ne-eqb}
 use Rattle.rst_bytes.specs.Escaped.{isStop}
-use Rattle.rst_bytes.proofs.escaped.is_stop.Statement.{statement}
-use Rattle.rst_bytes.proofs.escaped.is_stop.Tie as tie
+use Rattle.rst_bytes.proofs.free.is_stop.Statement.{statement}
+use Rattle.rst_bytes.proofs.free.is_stop.Tie as tie
 
 returns : tie.Need-returns
 unfolding isStop
