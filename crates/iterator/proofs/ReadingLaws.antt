@@ -137,7 +137,7 @@ module _ (s t w : List ℕ) (c : MarkupLinkCollection) (k : Held 0 0 t c) (h : c
       pub scannable : length w′ ≡ length w → Ends r → Scannable t w′ x c
       scannable g v = ((q .0, omega (arith, g, q .1)), (k, (subst Ends f v, omega (arith, inside .1))))
 
-      -- what is known of backticks behind it is true of what is read next
+      -- what is known behind it is true of what is read next
       pub next-known :
           (known : Known) → TrueBehind (take (length s - c .at) (drop (c .at) s)) known r
           → (n : ℕ) → n ≡ c .at + scannedBytes (linkOf x (drop (c .fill) w′)) → Holds 0 known (drop n s)

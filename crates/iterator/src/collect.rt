@@ -395,7 +395,12 @@ pub fn collect(document: &[u8], render: u32, numbers: &mut [u32], bytes: &mut [u
     ensures held { λ r. ⌜ CollectedHeld (length (now (document .entry))) (now (numbers .exit)) r ⌝ }
 {
     let mut c = new();
-    let mut known = Known { shut: 0, barren: 0 };
+    let mut known = Known {
+        shut: 0,
+        barren: 0,
+        blocks: 0,
+        unfollowed: 0,
+    };
     while c.at < document.len() {
         let at = c.at;
         let fill = c.fill;

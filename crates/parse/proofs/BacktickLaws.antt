@@ -1,5 +1,6 @@
--- What is known of backticks that are never closed by `_ (`Shut`): it stays known further on; the loop of `unclosed` learns it, since
--- from each backtick that was passed as an escaped one a part runs on to the same end; and no inline form is found where it holds.
+-- What is known from a place on (`Each`) stays known further on. What is known of backticks that are never closed by `_ (`Shut`): the loop
+-- of `unclosed` learns it, since from each backtick that was passed as an escaped one a part runs on to the same end; and no inline form is
+-- found where it holds.
 -- Assumes nothing.
 use Prim.Native.Nat.{ℕ, _+_, _-_, _<_, _≤_}
 use native.Mathlib.Nat.{le-refl, le-trans}
@@ -26,35 +27,37 @@ use Rattle.parse.specs.declared.Known.{Known}
 use Rattle.parse.specs.Link.{Scanned, nothing, behind, orElse}
 use Rattle.parse.specs.Forms.{anonymous, named, reference, tried, rst}
 use Rattle.parse.specs.Scan.{isOpening, openingOf, referenceAt, followed, inlineAt}
-use Rattle.parse.specs.Inner.{Ticks, NoPart, NoLink, Shut, Holds}
+use Rattle.parse.specs.Inner.{Each, Tick, Any, NoPart, NoLink, NoBlock, Shut, Holds, Marked}
 use Rattle.parse.proofs.FormsLaws.{tried-next}
 
--- Any claim of what begins with a backtick.
-module _ (Claim : List ℕ → Type 0) where
+-- Any claim of the bytes from a place on.
+module _ (Claim : ℕ → List ℕ → Type 0) where
   -- nothing is claimed of no places
-  pub ticks-none : (s : List ℕ) (m n : ℕ) → n ≤ m → Ticks Claim m n s
-  ticks-none s m n h i k l = absurd (omega arith)
+  pub each-none : (s : List ℕ) (m n : ℕ) → n ≤ m → Each Claim m n s
+  each-none s m n h i k l = absurd (omega arith)
 
   -- what is known from m on is known from a later place on
-  pub ticks-later : (s : List ℕ) (m k n : ℕ) → m ≤ k → Ticks Claim m n s → Ticks Claim k n s
-  ticks-later s m k n h f i l = f i (le-trans h l)
+  pub each-later : (s : List ℕ) (m k n : ℕ) → m ≤ k → Each Claim m n s → Each Claim k n s
+  each-later s m k n h f i l = f i (le-trans h l)
 
   -- what is known of s from place k on, t, is known of s
-  pub ticks-behind : (s t : List ℕ) (k n : ℕ) → t ≡ drop k s → Ticks Claim 0 n t → Ticks Claim k (k + n) s
-  ticks-behind s t k n e f i h l b =
+  pub each-behind : (s t : List ℕ) (k n : ℕ) → t ≡ drop k s → Each Claim 0 n t → Each Claim k (k + n) s
+  each-behind s t k n e f i h l =
       let z : k + (i - k) ≡ i = omega arith in
       let g : getD t (i - k) 0 ≡ getD s i 0 = ap (λ (x : List ℕ). getD x (i - k) 0) e ∙ getD-drop k s (i - k) 0 ∙ ap (λ (j : ℕ). getD s j 0) z in
       let d : drop (i - k) t ≡ drop i s = ap (drop (i - k)) e ∙ drop-drop (i - k) k s ∙ ap (λ (j : ℕ). drop j s) z in
-      subst Claim d (f (i - k) (omega arith) (omega arith) (g ∙ b))
+      subst (λ (b : ℕ). Claim b (drop i s)) g (subst (Claim (getD t (i - k) 0)) d (f (i - k) (omega arith) (omega arith)))
 
   -- what is known of s from m on is known of what stands from a later place k on
-  pub ticks-front : (s : List ℕ) (m k n : ℕ) → m ≤ k → Ticks Claim m n s → Ticks Claim 0 (n - k) (drop k s)
-  ticks-front s m k n h f i l g b =
-      subst⁻¹ Claim (drop-drop i k s) (f (k + i) (omega arith) (omega arith) (sym (getD-drop k s i 0) ∙ b))
+  pub each-front : (s : List ℕ) (m k n : ℕ) → m ≤ k → Each Claim m n s → Each Claim 0 (n - k) (drop k s)
+  each-front s m k n h f i l g =
+      subst⁻¹ (λ (b : ℕ). Claim b (drop i (drop k s))) (getD-drop k s i 0)
+      (subst⁻¹ (Claim (getD s (k + i) 0)) (drop-drop i k s) (f (k + i) (omega arith) (omega arith)))
 
 -- all that is known stays known further on
 pub holds-later : (s : List ℕ) (m k : ℕ) (known : Known) → m ≤ k → Holds m known s → Holds k known s
-holds-later s m k known h w = (ticks-later NoPart s m k (known .shut) h (w .0), ticks-later NoLink s m k (known .barren) h (w .1))
+holds-later s m k known h w =
+    (each-later (Tick NoPart) s m k (known .shut) h (w .0), each-later (Tick NoLink) s m k (known .barren) h (w .1), each-later (Any NoBlock) s m k (known .blocks) h (w .2), each-later Marked s m k (known .unfollowed) h (w .3))
 
 -- where a part that is read from place i on ends, it is not closed
 abbrev pub Unclosed : List ℕ → ℕ → Type 0

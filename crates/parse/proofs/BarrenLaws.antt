@@ -20,10 +20,10 @@ use Rattle.restructured_text.specs.Strings.{Link, link, none, no-room}
 use Rattle.restructured_text.specs.Inline.{embeddedOf, text2destOf, textLabel2destOf}
 use Rattle.restructured_text.proofs.InlineLaws.{text2dest-room, text-label2dest-room, embedded-longer, embedded-unbracketed, embedded-opened}
 use Rattle.parse.specs.Forms.{anonymous, named, tried, rst}
-use Rattle.parse.specs.Inner.{NoLink, Barren, Opened}
+use Rattle.parse.specs.Inner.{Tick, NoLink, Barren, Opened}
 use Rattle.parse.proofs.FormsLaws.{tried-link, tried-next}
 use Rattle.parse.proofs.RoundLaws.{found-nothing}
-use Rattle.parse.proofs.BacktickLaws.{ticks-none, ticks-behind}
+use Rattle.parse.proofs.BacktickLaws.{each-none, each-behind}
 
 -- Neither embedded form is found.
 module _ (s : List ℕ) where
@@ -166,13 +166,13 @@ module _ (s : List ℕ) (i : ℕ) (f : Barren 0 i s) (t : List ℕ) (it : t ≡ 
   byte = ap (λ (x : List ℕ). getD x n 0) it ∙ getD-drop i s n 0
 
   joined : Barren 0 n t → Barren 0 (i + n) s
-  joined g k l m b = ⊎-elim (λ j. f k l j b) (λ j. ticks-behind NoLink s t i n it g k j m b) (lt-or-le k i)
+  joined g k l m b = ⊎-elim (λ j. f k l j b) (λ j. each-behind (Tick NoLink) s t i n it g k j m b) (lt-or-le k i)
 
   pub loop-tick : getD s (i + n) 0 ≡ 0x60 → Barren 0 (i + n) s
   loop-tick b = joined (barren-unbracketed t n e within (byte ∙ b))
 
   pub loop-opened : (getD s (i + n) 0 ≡ 0x60 → ⊥) → (u : List ℕ) → u ≡ drop (i + n + 1) s → Opened u → Barren 0 (i + n + 1) s
-  loop-opened b u iu o = barren-over s (i + n) (i + n + 1) (joined (barren-opened t n e within angle (subst Opened (iu ∙ behind) o))) b (ticks-none NoLink s (i + n + 1) (i + n + 1) (omega arith))
+  loop-opened b u iu o = barren-over s (i + n) (i + n + 1) (joined (barren-opened t n e within angle (subst Opened (iu ∙ behind) o))) b (each-none (Tick NoLink) s (i + n + 1) (i + n + 1) (omega arith))
     where
       angle : getD t n 0 ≡ 0x3C
       angle = ⊎-elim (λ g. absurd (b (sym byte ∙ g))) (λ g. g) (stop-is 0x60 0x3C (getD t n 0) (taking-stop 0x60 0x3C t n e within))

@@ -22,6 +22,7 @@ use Rattle.restructured_text.proofs.TargetLaws.{label2dest-consumed}
 use Rattle.parse.specs.Link.{Kind, Scanned, text2dest, text-label2dest, text2label, label2dest, label2label, found, nothing, behind}
 use Rattle.parse.specs.Forms.{Form, alias, destination, anonymous, named, reference, tried, rst}
 use Rattle.parse.specs.Scan.{consumedOf, followed}
+use Rattle.parse.specs.Inner.{NoBlock}
 
 -- What a parser found, z, by its answer x, which is y: the scratch d is long enough, and was left as d′.
 pub answered : (s d d′ : List ℕ) (z : Link) (x y : Strings) → length s ≤ length d → stringsOf x d′ ≡ lent s d z → x ≡ y → z ≡ stringsOf y d′
@@ -57,6 +58,10 @@ at-front-followed s z k x y m n c e f =
     let g : 0 + n ≡ n = omega arith in
     at-front (followed rst s z) k x y m c (ap (followed rst s) e ∙ ap (found k x y 0) (ap (λ (i : ℕ). n + consumedOf (tried (rst .unreported) (drop i s))) g ∙ sym f))
 
+-- where there is neither an alias block nor a destination block there is no block
+pub no-block : (s : List ℕ) → label2labelOf s ≡ none → label2destOf s ≡ none → NoBlock s
+no-block s e f = tried-next alias (destination ∷ []) s e ∙ tried-next destination [] s f
+
 -- (b): an alias block, a destination block, neither.
 module _ (s : List ℕ) (m : ℕ) where
   pub block-alias : (x y : List ℕ) (n : ℕ) → label2labelOf s ≡ link x y n → found label2label x y m n ≡ behind m (tried (rst .blocks) s)
@@ -66,7 +71,7 @@ module _ (s : List ℕ) (m : ℕ) where
   block-destination x y n e f = at-front (tried (rst .blocks) s) label2dest x y m n (tried-next alias (destination ∷ []) s e ∙ tried-link destination [] s x y n f)
 
   pub block-nothing : label2labelOf s ≡ none → label2destOf s ≡ none → nothing ≡ behind m (tried (rst .blocks) s)
-  block-nothing e f = sym (ap (behind m) (tried-next alias (destination ∷ []) s e ∙ tried-next destination [] s f))
+  block-nothing e f = sym (ap (behind m) (no-block s e f))
 
 -- (d) and (e) with what follows: an anonymous embedded link, a named one, neither; a reference, none. A link consumes c bytes with the
 -- block behind it.
@@ -90,13 +95,14 @@ module _ (s : List ℕ) (m : ℕ) where
 
 -- The destination block behind n bytes.
 module _ (s : List ℕ) (n : ℕ) where
-  -- what its parser found in what was lent from there on
+  -- what the reader of both blocks found in what was lent from there on
   pub unreported-answered :
-      (d d′ : List ℕ) (x y : Strings) → (n ≤ length s) × (length s ≤ length d)
-      → stringsOf x d′ ≡ lent (take (length s - n) (drop n s)) (take (length d - n) (drop n d)) (label2destOf (take (length s - n) (drop n s)))
-      → x ≡ y → label2destOf (drop n s) ≡ stringsOf y d′
-  unreported-answered d d′ x y h e f =
-      answered (drop n s) (drop n d) d′ (label2destOf (drop n s)) x y (omega (arith, length-drop n s, length-drop n d)) (rw (part-from s n, part-from d n) at e) f
+      (d d′ : List ℕ) (x y : Definition) → (n ≤ length s) × (length s ≤ length d)
+      → stringsOf (aliasIn x) d′ ≡ lent (take (length s - n) (drop n s)) (take (length d - n) (drop n d)) (label2labelOf (take (length s - n) (drop n s)))
+      → stringsOf (destinationIn x) d′ ≡ lent (take (length s - n) (drop n s)) (take (length d - n) (drop n d)) (label2destOf (take (length s - n) (drop n s)))
+      → x ≡ y → (label2labelOf (drop n s) ≡ stringsOf (aliasIn y) d′) × (label2destOf (drop n s) ≡ stringsOf (destinationIn y) d′)
+  unreported-answered d d′ x y h e f g =
+      answered-both (drop n s) (drop n d) d′ x y (omega (arith, length-drop n s, length-drop n d)) (rw (part-from s n, part-from d n) at e) (rw (part-from s n, part-from d n) at f) g
 
   pub unreported-found : (x y : List ℕ) (m : ℕ) → label2destOf (drop n s) ≡ link x y m → n + m ≡ n + consumedOf (tried (rst .unreported) (drop n s))
   unreported-found x y m e = sym (ap (λ (z : Scanned). n + consumedOf z) (tried-link destination [] (drop n s) x y m e))

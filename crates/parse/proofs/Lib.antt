@@ -5,6 +5,7 @@ pub mod AppendingLaws
 pub mod FormsLaws
 pub mod BacktickLaws
 pub mod BarrenLaws
+pub mod UnfollowedLaws
 pub mod RoundLaws
 pub mod CalmLaws
 pub mod OnwardLaws

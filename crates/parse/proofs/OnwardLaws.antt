@@ -1,11 +1,15 @@
--- What is handed on from scan to scan: what is known where a link is found is true of the text behind it, with places counted from there.
+-- What is handed on from scan to scan: what is known where a link is found is true of the text behind it, with places counted from there,
+-- and so is that no block begins there, where that is told.
 -- Assumes nothing.
-use Prim.Native.Nat.{ℕ, _+_, _-_, _≤_}
+use Prim.Native.Nat.{ℕ, _+_, _-_, _≤_, _<_}
 use native.Mathlib.Omega.{arith}
 use mathlib.Core.Path.{_≡_, sym, ap, subst, subst⁻¹, _∙_}
 use mathlib.Core.List.{List}
-use mathlib.Core.Bool.{Bool}
+use mathlib.Core.Bool.{Bool, true, false}
+use lib.Dec.{ltb}
 use lib.ListN.{length, drop, length-drop}
+use borrow.Author.Tests.{ltb-true}
+use Rattle.rst_bytes.proofs.TestLaws.{by-test}
 use Rattle.parse.specs.declared.Known.{Known}
 use Rattle.parse.specs.declared.Link.{Link}
 use Rattle.parse.specs.declared.Link.the-variants.{Text2Dest, TextLabel2Dest, Text2Label, Label2Dest, Label2Label}
@@ -15,33 +19,44 @@ use Rattle.parse.specs.Link.{linkOf, scannedOf}
 use Rattle.parse.specs.Forms.{rst}
 use Rattle.parse.specs.Scan.{rounds}
 use Rattle.parse.specs.Laws.{Inside}
-use Rattle.parse.specs.Inner.{NoPart, NoLink, Holds, knownFrom, linkEnd, HoldsBehind}
+use Rattle.parse.specs.Inner.{Tick, Any, NoPart, NoLink, NoBlock, Marked, Blockless, Holds, Free, knownFrom, linkEnd, HoldsBehind}
 use Rattle.parse.proofs.ScanLaws.{rounds-inside, rst-consuming}
-use Rattle.parse.proofs.BacktickLaws.{ticks-none, ticks-front, holds-later}
+use Rattle.parse.proofs.BacktickLaws.{each-none, each-front, holds-later}
 
 -- nothing known is true of every text
-pub holds-nothing : (s : List ℕ) (m : ℕ) → Holds m (record { shut = 0; barren = 0 }) s
-holds-nothing s m = (ticks-none NoPart s m 0 (omega arith), ticks-none NoLink s m 0 (omega arith))
+pub holds-nothing : (s : List ℕ) (m : ℕ) → Holds m (record { shut = 0; barren = 0; blocks = 0; unfollowed = 0 }) s
+holds-nothing s m = (
+  each-none (Tick NoPart) s m 0 (omega arith),
+  each-none (Tick NoLink) s m 0 (omega arith),
+  each-none (Any NoBlock) s m 0 (omega arith),
+  each-none Marked s m 0 (omega arith),
+)
+
+-- where it is told, no block begins at the front
+blocks-front : (s : List ℕ) (free : ℕ) → (0 < free → NoBlock s) → Blockless 0 (elim (ltb 0 free) [ true ↦ 1 | false ↦ 0 ]) s
+blocks-front s free f =
+    by-test (λ n. Blockless 0 n s) (ltb 0 free) 1 0
+    (λ e i h l. let z : i ≡ 0 = omega arith in subst⁻¹ (λ (j : ℕ). NoBlock (drop j s)) z (f (ltb-true 0 free e)))
+    (λ e i h l. absurd (omega arith))
 
 -- all that is known from m on is true of what stands from a later place on
-holds-front : (s : List ℕ) (m k : ℕ) (known : Known) → m ≤ k → Holds m known s → Holds 0 (knownFrom k known) (drop k s)
-holds-front s m k known h w = (ticks-front NoPart s m k (known .shut) h (w .0), ticks-front NoLink s m k (known .barren) h (w .1))
+holds-front : (s : List ℕ) (m k free : ℕ) (known : Known) → m ≤ k → Holds m known s → Free free (drop k s) → Holds 0 (knownFrom k free known) (drop k s)
+holds-front s m k free known h w f =
+    (each-front (Tick NoPart) s m k (known .shut) h (w .0), each-front (Tick NoLink) s m k (known .barren) h (w .1), blocks-front (drop k s) free (f .0), f .1)
 
--- the two places as `known_from` has them
-pub known-is : (known : Known) (n a b : ℕ) → a ≡ known .shut - n → b ≡ known .barren - n → record { shut = a; barren = b } ≡ knownFrom n known
-known-is known n a b e f =
-    ap (λ (z : ℕ). knownOf z b) e ∙ ap (λ (z : ℕ). knownOf (known .shut - n) z) f
-  where
-    knownOf : ℕ → ℕ → Known
-    knownOf x y = record { shut = x; barren = y }
+-- the places as `known_from` has them
+pub known-is :
+    (known : Known) (n a b c d free : ℕ) → a ≡ known .shut - n → b ≡ known .barren - n → c ≡ elim (ltb 0 free) [ true ↦ 1 | false ↦ 0 ]
+    → d ≡ free - 1 → record { shut = a; barren = b; blocks = c; unfollowed = d } ≡ knownFrom n free known
+known-is known n a b c d free e f g h = rw (e, f, g, h)
 
 -- and what `next_of` hands on
 pub behind-holds :
-    (s : List ℕ) (x : Link) (known k : Known) (n : ℕ) → Holds (linkEnd x) known s → n ≡ linkEnd x → k ≡ knownFrom n known
-    → Holds 0 k (drop (linkEnd x) s)
-behind-holds s x known k n w e f =
-    subst⁻¹ (λ (z : Known). Holds 0 z (drop (linkEnd x) s)) (f ∙ ap (λ (m : ℕ). knownFrom m known) e)
-    (holds-front s (linkEnd x) (linkEnd x) known (omega arith) w)
+    (s : List ℕ) (x : Link) (known k : Known) (n free : ℕ) → Holds (linkEnd x) known s → Free free (drop (linkEnd x) s)
+    → n ≡ linkEnd x → k ≡ knownFrom n free known → Holds 0 k (drop (linkEnd x) s)
+behind-holds s x known k n free w h e f =
+    subst⁻¹ (λ (z : Known). Holds 0 z (drop (linkEnd x) s)) (f ∙ ap (λ (m : ℕ). knownFrom m free known) e)
+    (holds-front s (linkEnd x) (linkEnd x) free known (omega arith) w h)
 
 -- a link ends behind where it starts
 link-inside : (i n : ℕ) (x : Link) (d : List ℕ) → Inside i n (linkOf x d) → (i ≤ linkEnd x) × (linkEnd x ≤ n)

@@ -136,17 +136,17 @@ module _ (i : ℕ) (u : List ℕ) where
 
   module _ (spaced : Bool) where
     module _ (r : Scan) (d : List ℕ) (e : scannedOf r d ≡ behind i (followed rst u (tried (rst .embedded) u))) where
-      pub inline-embedded : (x : Link) → r ≡ Found x → linkOf x d ≡ behind i (inlineAt rst spaced u)
+      pub inline-embedded : (x : Link) → r ≡ Found x → scannedOf r d ≡ behind i (inlineAt rst spaced u)
       unfolding inlineAt
-      inline-embedded x f = else-found (tried (rst .embedded) u) (referenceAt rst spaced u) x d (is-scanned f d ∙ e)
+      inline-embedded x f = sym (is-scanned f d) ∙ else-found (tried (rst .embedded) u) (referenceAt rst spaced u) x d (is-scanned f d ∙ e)
 
       pub inline-reference : (y : Scanned) → r ≡ NotFound → y ≡ behind i (followed rst u (referenceAt rst spaced u)) → y ≡ behind i (inlineAt rst spaced u)
       unfolding inlineAt
       inline-reference y f g = else-nothing (tried (rst .embedded) u) (referenceAt rst spaced u) y (is-scanned f d ∙ e) g
 
-      pub inline-room : r ≡ NoRoom → no-room ≡ behind i (inlineAt rst spaced u)
+      pub inline-room : r ≡ NoRoom → scannedOf r d ≡ behind i (inlineAt rst spaced u)
       unfolding inlineAt
-      inline-room f = else-room (tried (rst .embedded) u) (referenceAt rst spaced u) (is-scanned f d ∙ e)
+      inline-room f = sym (is-scanned f d) ∙ else-room (tried (rst .embedded) u) (referenceAt rst spaced u) (is-scanned f d ∙ e)
 
     -- where neither finds a link, (d) does not
     pub inline-unlinked : nothing ≡ behind i (inlineAt rst spaced u) → tried (rst .embedded) u ≡ nothing
@@ -160,13 +160,13 @@ module _ (i : ℕ) (u : List ℕ) where
 
     -- (d) to (f)
     module _ (r : Scan) (d : List ℕ) (e : scannedOf r d ≡ behind i (inlineAt rst spaced u)) where
-      pub text-found : (x : Link) → r ≡ Found x → ends (linkOf x d) ≡ later i (textRound rst spaced u)
+      pub text-found : (x : Link) → r ≡ Found x → ends (scannedOf r d) ≡ later i (textRound rst spaced u)
       unfolding textRound
-      text-found x f = go-found i (inlineAt rst spaced u) (passedOf u) x d (is-scanned f d ∙ e)
+      text-found x f = ap ends (sym (is-scanned f d)) ∙ go-found i (inlineAt rst spaced u) (passedOf u) x d (is-scanned f d ∙ e)
 
-      pub text-room : r ≡ NoRoom → ends no-room ≡ later i (textRound rst spaced u)
+      pub text-room : r ≡ NoRoom → ends (scannedOf r d) ≡ later i (textRound rst spaced u)
       unfolding textRound
-      text-room f = go-room i (inlineAt rst spaced u) (passedOf u) (is-scanned f d ∙ e)
+      text-room f = ap ends (sym (is-scanned f d)) ∙ go-room i (inlineAt rst spaced u) (passedOf u) (is-scanned f d ∙ e)
 
     pub text-passed : (j : ℕ) → nothing ≡ behind i (inlineAt rst spaced u) → later i (passedOf u) ≡ passes j → passes j ≡ later i (textRound rst spaced u)
     unfolding textRound
@@ -313,8 +313,8 @@ module _ (start : Bool) (s : List ℕ) (i : ℕ) (h : i < length s) (r : Step) (
   step-is : (x : Step) → r ≡ x → later i (roundOf rst start (drop i s)) ≡ stepOf x d
   step-is x f = sym e ∙ ap (λ (y : Step). stepOf y d) f
 
-  pub step-stops : (x : Scan) → r ≡ Stops x → scannedOf x d ≡ rounds rst 0 start i (drop i s)
-  step-stops x f = sym (later-stops rst rst-consuming start s i h (scannedOf x d) (step-is (Stops x) f))
+  pub step-stops : (x : Scan) (free : ℕ) → r ≡ Stops x free → scannedOf x d ≡ rounds rst 0 start i (drop i s)
+  step-stops x free f = sym (later-stops rst rst-consuming start s i h (scannedOf x d) (step-is (Stops x free) f))
 
   pub step-passes : (j : ℕ) (known : Known) → r ≡ Passes j known → (rounds rst 0 start i (drop i s) ≡ rounds rst 0 false j (drop j s)) × (i < j) × (j ≤ length s)
   step-passes j known f = later-passes rst rst-consuming start s i h j (step-is (Passes j known) f)

@@ -1,16 +1,18 @@
--- What the contracts of private functions speak of: a round's answer with the place that comes next; what is known of backticks, which
--- `next_link` hands on too; text without links; how two strings are handed over.
+-- What the contracts of private functions speak of: a round's answer with the place that comes next; what is known of backticks and
+-- of blocks, which `next_link` hands on too; text without links; how two strings are handed over.
 -- Assumes nothing.
 use Prim.Native.Nat.{ℕ, _+_, _-_, _<_, _≤_}
 use mathlib.Core.Path.{_≡_}
 use mathlib.Core.List.{List}
 use mathlib.Core.Bool.{Bool, true, false}
 use mathlib.Core.Logic.{_⊎_}
+use lib.Dec.{ltb}
 use lib.ListN.{length, drop, getD}
 use Rattle.rst_bytes.specs.Escaped.{isStop, taking}
 use Rattle.rst_bytes.specs.declared.Part.the-variants.{Taken, Refused}
 use Rattle.restructured_text.specs.Delimited.{backtickedOf}
 use Rattle.parse.specs.declared.Known.{Known}
+use Rattle.parse.specs.declared.forms.Answer.{Answer}
 use Rattle.parse.specs.declared.Next.{Next}
 use Rattle.parse.specs.declared.Scan.{Scan}
 use Rattle.parse.specs.declared.Scan.the-variants.{Found, NotFound, NoRoom}
@@ -25,35 +27,69 @@ use Rattle.parse.specs.Forms.{tried, rst}
 use Rattle.parse.specs.Scan.{Round, ends, passes, isLf, isPlain, rounds}
 use Rattle.parse.specs.Single.{Outcome, refusal, acceptance, handed}
 
--- from place m on and before place n of s the claim holds of what begins with a backtick
-abbrev pub Ticks : (List ℕ → Type 0) → ℕ → ℕ → List ℕ → Type 0
-Ticks Claim m n s = (i : ℕ) → m ≤ i → i < n → getD s i 0 ≡ 0x60 → Claim (drop i s)
+-- from place m on and before place n of s the claim holds of each byte and what begins with it
+abbrev pub Each : (ℕ → List ℕ → Type 0) → ℕ → ℕ → List ℕ → Type 0
+Each Claim m n s = (i : ℕ) → m ≤ i → i < n → Claim (getD s i 0) (drop i s)
+
+-- if that is a backtick
+abbrev pub Tick : (List ℕ → Type 0) → ℕ → List ℕ → Type 0
+Tick Claim b s = b ≡ 0x60 → Claim s
+
+-- whatever it is
+abbrev pub Any : (List ℕ → Type 0) → ℕ → List ℕ → Type 0
+Any Claim b s = Claim s
 
 -- no part that is closed by `_ begins there
 abbrev pub NoPart : List ℕ → Type 0
 NoPart s = (anonym : Bool) → backtickedOf anonym s ≡ Refused
 
 abbrev pub Shut : ℕ → ℕ → List ℕ → Type 0
-Shut m n s = Ticks NoPart m n s
+Shut m n s = Each (Tick NoPart) m n s
 
 -- no embedded link begins there
 abbrev pub NoLink : List ℕ → Type 0
 NoLink s = tried (rst .embedded) s ≡ nothing
 
 abbrev pub Barren : ℕ → ℕ → List ℕ → Type 0
-Barren m n s = Ticks NoLink m n s
+Barren m n s = Each (Tick NoLink) m n s
+
+-- no block begins there
+abbrev pub NoBlock : List ℕ → Type 0
+NoBlock s = tried (rst .blocks) s ≡ nothing
+
+abbrev pub Blockless : ℕ → ℕ → List ℕ → Type 0
+Blockless m n s = Each (Any NoBlock) m n s
+
+-- none begins directly behind the byte, if that is _
+abbrev pub Marked : ℕ → List ℕ → Type 0
+Marked b s = b ≡ 0x5F → NoBlock (drop 1 s)
+
+abbrev pub Unfollowed : ℕ → ℕ → List ℕ → Type 0
+Unfollowed m n s = Each Marked m n s
 
 -- the first unescaped backtick or < is <
 abbrev pub Opened : List ℕ → Type 0
 Opened s = (n : ℕ) × (taking 0x60 0x3C false 0 s ≡ Taken n) × (n < length s) × (getD s n 0 ≡ 0x3C)
 
--- what is known of backticks from place m on is true
+-- what is known from place m on is true
 abbrev pub Holds : ℕ → Known → List ℕ → Type 0
-Holds m known s = Shut m (known .shut) s × Barren m (known .barren) s
+Holds m known s =
+    Shut m (known .shut) s × Barren m (known .barren) s × Blockless m (known .blocks) s × Unfollowed m (known .unfollowed) s
 
--- the same, with places counted from place n on
-abbrev pub knownFrom : ℕ → Known → Known
-knownFrom n known = record { shut = known .shut - n; barren = known .barren - n }
+-- what is told of blocks in a text by a number: where it is not 0, none begins at the front, nor directly behind a _ of so many bytes
+-- less one
+abbrev pub Free : ℕ → List ℕ → Type 0
+Free n s = (0 < n → NoBlock s) × Unfollowed 0 (n - 1) s
+
+-- what is known, with places counted from place n on, and what is told of blocks there
+abbrev pub knownFrom : ℕ → ℕ → Known → Known
+knownFrom n free known =
+    record {
+      shut = known .shut - n;
+      barren = known .barren - n;
+      blocks = elim (ltb 0 free) [ true ↦ 1 | false ↦ 0 ];
+      unfollowed = free - 1;
+    }
 
 -- the place behind a link
 abbrev pub linkEnd : Link → ℕ
@@ -69,7 +105,17 @@ HoldsBehind s known (Found x) = (linkEnd x ≤ length s) × Holds (linkEnd x) kn
 HoldsBehind s known NotFound = Unit {0}
 HoldsBehind s known NoRoom = Unit {0}
 
--- and is true of the text behind it
+-- what is told of blocks behind a link of s is true; of nothing else is it told
+abbrev pub FreeBehind : List ℕ → ℕ → Scan → Type 0
+FreeBehind s free (Found x) = Free free (drop (linkEnd x) s)
+FreeBehind s free NotFound = free ≡ 0
+FreeBehind s free NoRoom = free ≡ 0
+
+-- the same of what was looked for in t, which stands at place n of whatever text
+abbrev pub FreeFrom : ℕ → List ℕ → Answer → Type 0
+FreeFrom n t r = (s : List ℕ) → t ≡ drop n s → FreeBehind s (r .free) (r .scan)
+
+-- what is known is true of the text behind a link
 abbrev pub TrueBehind : List ℕ → Known → Scan → Type 0
 TrueBehind s known (Found x) = Holds 0 known (drop (linkEnd x) s)
 TrueBehind s known NotFound = Unit {0}
@@ -80,16 +126,16 @@ NextHolds s r = TrueBehind s (r .known) (r .scan)
 
 -- what a step says, with the scratch as it was left: places count from the front of the text
 abbrev pub stepOf : Step → List ℕ → Round
-stepOf (Stops x) scratch = ends (scannedOf x scratch)
+stepOf (Stops x free) scratch = ends (scannedOf x scratch)
 stepOf (Passes next known) scratch = passes next
 
 abbrev pub StepEnds : Step → Type 0
-StepEnds (Stops x) = Ends x
+StepEnds (Stops x free) = Ends x
 StepEnds (Passes next known) = Unit {0}
 
--- what is known of backticks from the next place on
+-- what is told of blocks behind the link, or known from the next place on, is true
 abbrev pub StepHolds : List ℕ → Step → Type 0
-StepHolds s (Stops x) = Unit {0}
+StepHolds s (Stops x free) = FreeBehind s free x
 StepHolds s (Passes next known) = Holds next known s
 
 -- from place i on and before place j of s no byte is _ or a backtick

@@ -47,11 +47,13 @@ pub enum Scan {
     NoRoom,
 }
 
-// What is known of backticks from a place on: before `shut` none begins a part that is closed, and before `barren` none begins an
-// embedded link.
+// What is known from a place on: before `shut` no backtick begins a part that is closed, before `barren` none begins an embedded link,
+// before `blocks` no block begins, and before `unfollowed` none begins directly behind a `_`.
 pub struct Known {
     pub shut: usize,
     pub barren: usize,
+    pub blocks: usize,
+    pub unfollowed: usize,
 }
 
 // A scan's answer, and what is known from behind the link that was found, if one was.
@@ -75,13 +77,18 @@ pub fn take_link(s: &[u8], scratch: &mut [u8]) -> Scan
     ensures scan { λ r. ⌜ scannedOf r (now (scratch .exit)) ≡ lent (now (s .entry)) (now (scratch .entry)) (scanOf (now (s .entry))) ⌝ }
     ensures ends { λ r. ⌜ Ends r ⌝ }
 {
-    let known = Known { shut: 0, barren: 0 };
+    let known = Known {
+        shut: 0,
+        barren: 0,
+        blocks: 0,
+        unfollowed: 0,
+    };
     let next = next_link(s, scratch, known);
     next.scan
 }
 
-// The same where something is known of backticks; what is known behind the link is handed back. It is `iterator` that goes from link to
-// link so. This alone of the public functions asks something of its caller: that what it hands in is true, as what it was handed back is.
+// The same where something is known; what is known behind the link is handed back. It is `iterator` that goes from link to link so. This
+// alone of the public functions asks something of its caller: that what it hands in is true, as what it was handed back is.
 pub fn next_link(s: &[u8], scratch: &mut [u8], known: Known) -> Next
     requires known { ⌜ Holds 0 known (now s) ⌝ }
     ensures scan { λ r. ⌜ scannedOf (r .scan) (now (scratch .exit)) ≡ lent (now (s .entry)) (now (scratch .entry)) (scanOf (now (s .entry))) ⌝ }
@@ -89,7 +96,7 @@ pub fn next_link(s: &[u8], scratch: &mut [u8], known: Known) -> Next
     ensures known { λ r. ⌜ NextHolds (now (s .entry)) r ⌝ }
 {
     if scratch.len() < s.len() {
-        return next_of(s, Scan::NoRoom, known);
+        return next_of(s, Scan::NoRoom, known, 0);
     }
     let mut i = 0;
     let mut input_start = true;
@@ -106,8 +113,8 @@ pub fn next_link(s: &[u8], scratch: &mut [u8], known: Known) -> Next
             continue;
         }
         match round(s, i, scratch, input_start, known) {
-            Step::Stops(x) => {
-                return next_of(s, x, known);
+            Step::Stops(x, free) => {
+                return next_of(s, x, known, free);
             }
             Step::Passes(next, learnt) => {
                 i = next;
@@ -116,7 +123,7 @@ pub fn next_link(s: &[u8], scratch: &mut [u8], known: Known) -> Next
             }
         }
     }
-    next_of(s, Scan::NotFound, known)
+    next_of(s, Scan::NotFound, known, 0)
 }
 
 // The first link of the document from a place on; its strings are written to the front of the two buffers, or all of this is

@@ -1,14 +1,16 @@
 // One round of the scanner: (a) LFs, (b) blocks, (c) blanks, (d) embedded links, (e) references, (f) other bytes.
 //
 // A step takes the text and a place in it; one that tries parsers is also lent a scratch as long as the text. What an earlier round
-// learnt of backticks is handed on as two places, so that the text behind them is not read again and again.
+// learnt is handed on as places, so that the text before them is not read again and again; and with a link that no block begins behind it.
 use crate::Known;
 use crate::Scan;
 use crate::backtick::unclosed;
 use crate::barren::barren;
+use crate::forms::Answer;
 use crate::forms::block;
 use crate::forms::embedded;
 use crate::forms::reference;
+use crate::onward::place_from;
 use rst_bytes::line::space0;
 ghost use mathlib.Core.Path.{_≡_};
 ghost use mathlib.Core.Bool.{true, false, _||_};
@@ -33,11 +35,12 @@ ghost use Rattle.parse.specs.Scan.{
   roundOf,
   later,
 };
-ghost use Rattle.parse.specs.Inner.{Shut, Barren, Holds, stepOf, StepEnds, StepHolds};
+ghost use Rattle.parse.specs.Inner.{Shut, Barren, Blockless, Unfollowed, Holds, FreeBehind, stepOf, StepEnds, StepHolds};
 
-// A round's answer: the scan's; or the place where the next round starts, and what is known from there on.
+// A round's answer: the scan's, and whether it is a link behind which no block begins; or the place where the next round starts, and what
+// is known from there on.
 pub enum Step {
-    Stops(Scan),
+    Stops(Scan, usize),
     Passes(usize, Known),
 }
 
@@ -67,17 +70,20 @@ fn starts(before: bool, n: usize) -> bool
     0 < n
 }
 
-// (b) A block, at line or input start.
-fn block_at(s: &[u8], i: usize, scratch: &mut [u8], line: bool) -> Scan
-    requires { ⌜ (i ≤ length (now s)) × (length (now s) ≤ length (now scratch)) ⌝ }
+// (b) A block, at line or input start. It is not looked for where it is known that none begins.
+fn block_at(s: &[u8], i: usize, scratch: &mut [u8], line: bool, blocks: usize) -> Scan
+    requires room { ⌜ (i ≤ length (now s)) × (length (now s) ≤ length (now scratch)) ⌝ }
+    requires blocks { ⌜ Blockless i blocks (now s) ⌝ }
     ensures scan { λ r. ⌜ scannedOf r (now (scratch .exit)) ≡ behind i (blockAt rst line (drop i (now (s .entry)))) ⌝ }
     ensures ends { λ r. ⌜ Ends r ⌝ }
 {
     if line {
-        block(&s[i..], i, scratch)
-    } else {
-        Scan::NotFound
+        if i < blocks {
+            return Scan::NotFound;
+        }
+        return block(&s[i..], i, scratch);
     }
+    Scan::NotFound
 }
 
 // (e) One of `([<'"`.
@@ -88,38 +94,47 @@ fn is_opening(b: u8) -> bool
 }
 
 // (e) A reference, behind one of these if there is one.
-fn reference_at(s: &[u8], i: usize, scratch: &mut [u8], spaced: bool) -> Scan
-    requires { ⌜ (i < length (now s)) × (length (now s) ≤ length (now scratch)) ⌝ }
-    ensures scan { λ r. ⌜ scannedOf r (now (scratch .exit)) ≡ behind i (followed rst (drop i (now (s .entry))) (referenceAt rst spaced (drop i (now (s .entry))))) ⌝ }
-    ensures ends { λ r. ⌜ Ends r ⌝ }
+fn reference_at(s: &[u8], i: usize, scratch: &mut [u8], spaced: bool, unfollowed: usize) -> Answer
+    requires room { ⌜ (i < length (now s)) × (length (now s) ≤ length (now scratch)) ⌝ }
+    requires known { ⌜ Unfollowed i unfollowed (now s) ⌝ }
+    ensures scan { λ r. ⌜ scannedOf (r .scan) (now (scratch .exit)) ≡ behind i (followed rst (drop i (now (s .entry))) (referenceAt rst spaced (drop i (now (s .entry))))) ⌝ }
+    ensures ends { λ r. ⌜ Ends (r .scan) ⌝ }
+    ensures free { λ r. ⌜ FreeBehind (now (s .entry)) (r .free) (r .scan) ⌝ }
 {
     if spaced {
         let b = s[i];
         if is_opening(b) {
             let j = i + 1;
-            return reference(&s[j..], j, scratch);
+            return reference(&s[j..], j, scratch, place_from(unfollowed, j));
         }
-        return reference(&s[i..], i, scratch);
+        return reference(&s[i..], i, scratch, place_from(unfollowed, i));
     }
-    Scan::NotFound
+    Answer {
+        scan: Scan::NotFound,
+        free: 0,
+    }
 }
 
 // (d) and (e) at a backtick.
-fn inline_at(s: &[u8], i: usize, scratch: &mut [u8], spaced: bool) -> Scan
-    requires { ⌜ (i < length (now s)) × (length (now s) ≤ length (now scratch)) ⌝ }
-    ensures scan { λ r. ⌜ scannedOf r (now (scratch .exit)) ≡ behind i (inlineAt rst spaced (drop i (now (s .entry)))) ⌝ }
-    ensures ends { λ r. ⌜ Ends r ⌝ }
+fn inline_at(s: &[u8], i: usize, scratch: &mut [u8], spaced: bool, unfollowed: usize) -> Answer
+    requires room { ⌜ (i < length (now s)) × (length (now s) ≤ length (now scratch)) ⌝ }
+    requires known { ⌜ Unfollowed i unfollowed (now s) ⌝ }
+    ensures scan { λ r. ⌜ scannedOf (r .scan) (now (scratch .exit)) ≡ behind i (inlineAt rst spaced (drop i (now (s .entry)))) ⌝ }
+    ensures ends { λ r. ⌜ Ends (r .scan) ⌝ }
+    ensures free { λ r. ⌜ FreeBehind (now (s .entry)) (r .free) (r .scan) ⌝ }
 {
-    match embedded(&s[i..], i, scratch) {
-        Scan::Found(x) => {
-            return Scan::Found(x);
+    let found = embedded(&s[i..], i, scratch, place_from(unfollowed, i));
+    let scan = found.scan;
+    match scan {
+        Scan::Found(_) => {
+            return found;
         }
         Scan::NotFound => {}
         Scan::NoRoom => {
-            return Scan::NoRoom;
+            return found;
         }
     }
-    reference_at(s, i, scratch, spaced)
+    reference_at(s, i, scratch, spaced, unfollowed)
 }
 
 // (f) One of the bytes at which a link may start.
@@ -203,20 +218,26 @@ fn backtick_round(s: &[u8], i: usize, scratch: &mut [u8], spaced: bool, known: K
         let known = Known {
             shut,
             barren: known.barren,
+            blocks: known.blocks,
+            unfollowed: known.unfollowed,
         };
         return Step::Passes(passed(s, i), known);
     }
-    match inline_at(s, i, scratch, spaced) {
-        Scan::Found(x) => Step::Stops(Scan::Found(x)),
+    let found = inline_at(s, i, scratch, spaced, known.unfollowed);
+    let scan = found.scan;
+    match scan {
+        Scan::Found(_) => Step::Stops(scan, found.free),
         Scan::NotFound => {
             let n = barren(&s[i..]);
             let known = Known {
                 shut,
                 barren: i + n,
+                blocks: known.blocks,
+                unfollowed: known.unfollowed,
             };
             Step::Passes(passed(s, i), known)
         }
-        Scan::NoRoom => Step::Stops(Scan::NoRoom),
+        Scan::NoRoom => Step::Stops(scan, found.free),
     }
 }
 
@@ -229,15 +250,17 @@ fn text_round(s: &[u8], i: usize, scratch: &mut [u8], spaced: bool, known: Known
     ensures known { λ r. ⌜ StepHolds (now (s .entry)) r ⌝ }
 {
     if s.len() <= i {
-        return Step::Stops(Scan::NotFound);
+        return Step::Stops(Scan::NotFound, 0);
     }
     if may_embed(s, i, known.barren) {
         return backtick_round(s, i, scratch, spaced, known);
     }
-    match reference_at(s, i, scratch, spaced) {
-        Scan::Found(x) => Step::Stops(Scan::Found(x)),
+    let found = reference_at(s, i, scratch, spaced, known.unfollowed);
+    let scan = found.scan;
+    match scan {
+        Scan::Found(_) => Step::Stops(scan, found.free),
         Scan::NotFound => Step::Passes(passed(s, i), known),
-        Scan::NoRoom => Step::Stops(Scan::NoRoom),
+        Scan::NoRoom => Step::Stops(scan, found.free),
     }
 }
 
@@ -252,13 +275,13 @@ pub fn round(s: &[u8], i: usize, scratch: &mut [u8], start: bool, known: Known) 
     let n = newlines(&s[i..]);
     let a = i + n;
     let line = starts(start, n);
-    match block_at(s, a, scratch, line) {
+    match block_at(s, a, scratch, line, known.blocks) {
         Scan::Found(x) => {
-            return Step::Stops(Scan::Found(x));
+            return Step::Stops(Scan::Found(x), 0);
         }
         Scan::NotFound => {}
         Scan::NoRoom => {
-            return Step::Stops(Scan::NoRoom);
+            return Step::Stops(Scan::NoRoom, 0);
         }
     }
     let m = space0(&s[a..]);

@@ -10,4 +10,5 @@ pub mod JoinLaws
 pub mod BlockLaws
 pub mod TargetLaws
 pub mod CalmLaws
+pub mod TargetlessLaws
 mod Cases

@@ -5,7 +5,7 @@ use Prim.Native.Nat.{ℕ, zero, suc, _+_, _<_, _≤_}
 use native.Mathlib.Omega.{arith}
 use mathlib.Core.Path.{_≡_, refl, sym, ap, subst, subst⁻¹, _∙_}
 use mathlib.Core.List.{List, [], _∷_, _++_}
-use mathlib.Core.Bool.{Bool, true, false, not, _&&_, _||_, false≢true}
+use mathlib.Core.Bool.{Bool, true, false, not, _&&_, _||_, false≢true, true≢false}
 use mathlib.Core.Logic.{_⊎_, inl, inr, ⊎-elim}
 use lib.ListN.{length, drop, take, set, length-take, length-drop}
 use lib.Seq.{take-length, drop-drop}
@@ -319,6 +319,53 @@ module _ (text : List ℕ) (n : ℕ) where
       go NoLabel f =
           ap (λ (y : Raw). anonymousOf (not (y .alias)) text n) (raw-is text r i _ f)
           ∙ anonymous-none true text n (rest-label true text NoLabel refl f)
+
+-- Where the target that the rest has is refused there is none.
+either-none : (F : Bool → Link) (alias : Bool) → F alias ≡ none → F (not alias) ≡ none → (label : Bool) → F label ≡ none
+either-none F true e f true = e
+either-none F true e f false = f
+either-none F false e f true = f
+either-none F false e f false = e
+
+-- it stands within the rest
+pub raw-within : (s : List ℕ) (r : Raw) → r ≡ rawOf s → r .start + r .len ≤ length s
+raw-within s r i = subst (RestIn (length s)) (raw-rest s r i) (rest-in (r .alias) s)
+
+-- and is all of it, if it is no alias's
+pub raw-all : (s : List ℕ) (r : Raw) → r ≡ rawOf s → r .alias ≡ false → take (r .len) (drop (r .start) s) ≡ s
+raw-all s r i f = go (simpleLabelOf s) refl
+  where
+    go : (x : SimpleLabel) → simpleLabelOf s ≡ x → take (r .len) (drop (r .start) s) ≡ s
+    go (Named l m) e = absurd (true≢false (sym (ap (λ (y : Raw). y .alias) (raw-is s r i _ e)) ∙ f))
+    go NoLabel e = ap (λ (y : Raw). take (y .len) (drop (y .start) s)) (raw-is s r i _ e) ∙ take-length s
+
+refused-none : (g : Given) (x : List ℕ) (n : ℕ) → paired g (refused x) n ≡ none
+refused-none (whole y) x n = refl
+refused-none (refused y) x n = refl
+
+module _ (text : List ℕ) (n : ℕ) where
+  pub named-refused :
+      (name : Span) (k : ℕ) (v : List ℕ) → nameOf text ≡ Is name k → v ≡ drop k text → (x : List ℕ)
+      → destinationOf (take (rawOf v .len) (drop (rawOf v .start) v)) ≡ refused x → (label : Bool) → namedOf label text n ≡ none
+  named-refused name k v e iv x f =
+      either-none (λ (l : Bool). namedOf l text n) (rawOf v .alias)
+      (named-linked (rawOf v .alias) text n name (record { start = k + rawOf v .start; len = rawOf v .len }) _ (parse-rest (rawOf v .alias) text name k v _ e iv (raw-rest v (rawOf v) refl)) (raw-kept v (rawOf v) refl _ stands)
+      ∙ ap (λ (y : List ℕ). paired (textOf (part name text)) (destinationOf y) n) stands
+      ∙ ap (λ (g : Given). paired (textOf (part name text)) g n) f
+      ∙ refused-none (textOf (part name text)) x n)
+      (named-other text n name k e (rawOf v) (ap rawOf iv))
+    where
+      stands : part (record { start = k + rawOf v .start; len = rawOf v .len }) text ≡ take (rawOf v .len) (drop (rawOf v .start) v)
+      stands = ap (take (rawOf v .len)) (sym (drop-drop (rawOf v .start) k text) ∙ ap (drop (rawOf v .start)) (sym iv))
+
+  pub anonymous-refuses :
+      (x : List ℕ) → destinationOf (take (rawOf text .len) (drop (rawOf text .start) text)) ≡ refused x → (label : Bool)
+      → anonymousOf label text n ≡ none
+  anonymous-refuses x f =
+      either-none (λ (l : Bool). anonymousOf l text n) (rawOf text .alias)
+      (anonymous-paired (rawOf text .alias) text n (rawSpan (rawOf text)) (raw-rest text (rawOf text) refl) (raw-kept text (rawOf text) refl _ refl)
+      ∙ ap (λ (g : Given). paired (whole (0x5F ∷ [])) g n) f)
+      (anonymous-other text n (rawOf text) refl)
 
 -- What an answer y says of both, with the scratch d: F is what there is of an alias and of a destination.
 abbrev Both : (Bool → Link) → List ℕ → Definition → Type 0

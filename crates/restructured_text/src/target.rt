@@ -126,7 +126,7 @@ pub fn rst_parse_label2target(s: &[u8], label: bool) -> Spans
 }
 
 // The raw target of either: the simple label at the front, which makes an alias, else all of it.
-fn raw_target(s: &[u8]) -> Raw
+pub fn raw_target(s: &[u8]) -> Raw
     ensures { λ r. ⌜ r ≡ rawOf (now (s .entry)) ⌝ }
 {
     match rst_parse_simple_label(s) {
@@ -199,7 +199,7 @@ fn anonymous_target(d: &mut [u8], len: usize, n: usize) -> Definition
 }
 
 // Whether a target may start: behind the indent `.. _`, or `__ `.
-fn starts_target(s: &[u8]) -> bool
+pub fn starts_target(s: &[u8]) -> bool
     ensures { λ r. ⌜ r ≡ startsTarget (now (s .entry)) ⌝ }
 {
     let a = space0(s);

@@ -23,7 +23,7 @@ pub enum Transformed {
 }
 
 // What a backslash may stand before in a destination: space, ':', backtick, '<', '>', backslash.
-fn is_destination_escapable(b: u8) -> bool
+pub fn is_destination_escapable(b: u8) -> bool
     ensures { λ r. ⌜ r ≡ isDestinationEscapable b ⌝ }
 {
     b == b' ' || (b == b':' || (b == b'`' || (b == b'<' || (b == b'>' || b == b'\\'))))

@@ -14,13 +14,12 @@ pub fn is_escapable(b: u8) -> bool
         || (b == b'`' || (b == b':' || (b == b'<' || (b == b'>' || (b == b'_' || b == b'\\')))))
 }
 
-// The part up to p or q, whatever the first byte is. Bytes that may be taken at once are looked for first, and then after 16 steps
-// again.
+// The part up to p or q, whatever the first byte is. Each 16 steps bytes that may be taken at once are looked for.
 fn take_escaped(s: &[u8], p: u8, q: u8) -> Part
     ensures { λ r. ⌜ r ≡ taking p q false 0 (now (s .entry)) ⌝ }
 {
     let mut i = 0;
-    let mut wait: usize = 0;
+    let mut wait: usize = 16;
     while i < s.len() {
         if wait == 0 {
             i = i + free_front(&s[i..], p, q, b'\\');

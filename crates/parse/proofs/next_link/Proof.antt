@@ -1,6 +1,6 @@
 -- `next_link` meets its contract. The loop's invariant: the scan from the front is that from i on, i bytes being skipped, and what is
--- known of backticks holds from i on. Calm text is passed; a round ends the scan, or passes some bytes: the measure is what is left.
--- Where it ends with a link, what was known in front of it is true behind it.
+-- known holds from i on. Calm text is passed; a round ends the scan, or passes some bytes: the measure is what is left.
+-- Where it ends with a link, what was known in front of it is true behind it, and what is told of blocks there is true.
 -- Assumes nothing.
 use Prim.Native.Nat.{_-_, _≤_}
 use mathlib.Core.Path.{_≡_, refl, sym, subst, subst⁻¹, _∙_}
@@ -26,7 +26,7 @@ abbrev μ-loop : tie.MeasureT-loop
 μ-loop s scratch₀ i₀ input-start₀ known₀ lines₀ words₀ scratch i input-start known lines words = length s - i
 
 next-of-requires : tie.Need-next-of-requires Inv-loop μ-loop
-next-of-requires c κs = tt
+next-of-requires c κs = (tt, refl)
 
 returns : tie.Need-returns Inv-loop μ-loop
 returns c =
@@ -63,7 +63,7 @@ next-of-requires-2 c κs =
     let s = c .before .before .before .before .before .before .before .before .before .before .before .before .before .before .before .args .s .now in
     let l = c .before .before .before .before .before .before .before .before .before .before .before .loop in
     let r = c .before .before .before .before .before .round in
-    found-holds s (l .i) (l .input-start) (l .known) (r .last .1 .1 .0) (c .before .x .given .0 .0) (l .inv .0) (l .inv .3) (step-stops (l .input-start) s (l .i) (omega arith) (r .result) (r .last .1 .1 .0) (r .ensures .0) _ (c .before .x .given .1))
+    (found-holds s (l .i) (l .input-start) (l .known) (r .last .1 .1 .0) (c .before .x .given .0 .0) (l .inv .0) (l .inv .3) (step-stops (l .input-start) s (l .i) (omega arith) (r .result) (r .last .1 .1 .0) (r .ensures .0) _ _ (c .before .x .given .1)), subst (StepHolds s) (c .before .x .given .1) (r .ensures .1 .1))
 
 same-length : tie.Need-same-length Inv-loop μ-loop
 same-length c = search needs
@@ -74,7 +74,7 @@ returns-2 c =
     let l = c .before .before .before .before .before .before .before .before .before .before .before .before .loop in
     let r = c .before .before .before .before .before .before .round in
     let a = c .next-of2 .ensures in (
-      sym (is-scanned (a .0) (r .last .1 .1 .0)) ∙ step-stops (l .input-start) (w .s .now) (l .i) (omega arith) (r .result) (r .last .1 .1 .0) (r .ensures .0) _ (c .before .before .x .given .1) ∙ sym (l .inv .2) ∙ lent-enough (w .s .now) (w .scratch .now) (scanOf (w .s .now)) (c .before .before .before .before .before .before .before .before .before .before .before .before .before .if1 .left),
+      sym (is-scanned (a .0) (r .last .1 .1 .0)) ∙ step-stops (l .input-start) (w .s .now) (l .i) (omega arith) (r .result) (r .last .1 .1 .0) (r .ensures .0) _ _ (c .before .before .x .given .1) ∙ sym (l .inv .2) ∙ lent-enough (w .s .now) (w .scratch .now) (scanOf (w .s .now)) (c .before .before .before .before .before .before .before .before .before .before .before .before .before .if1 .left),
       (subst⁻¹ Ends (a .0) (subst StepEnds (c .before .before .x .given .1) (r .ensures .1 .0)), a .1),
     )
 
@@ -102,7 +102,7 @@ loop-again-2 c =
     )
 
 next-of-requires-3 : tie.Need-next-of-requires-3 Inv-loop μ-loop
-next-of-requires-3 c κs = tt
+next-of-requires-3 c κs = (tt, refl)
 
 same-length-2 : tie.Need-same-length-2 Inv-loop μ-loop
 same-length-2 c = search needs

@@ -1,5 +1,5 @@
 -- `collect::collect` meets its contract: the loop's invariant: what all links give is what those behind `at` add to what is collected, and what is
--- known of backticks is true of what stands behind `at`. The measure is what is left of the document; each link found has at least one
+-- known is true of what stands behind `at`. The measure is what is left of the document; each link found has at least one
 -- byte (ReadingLaws).
 -- Assumes nothing.
 use Rattle.iterator.proofs.ReadingLaws.{filled, inside, scannable, next-held, next-goes, next-known, refused-goes, none-goes, room-always, end-goes, start-goes, start-held}

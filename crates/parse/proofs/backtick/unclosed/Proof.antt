@@ -6,10 +6,10 @@ use mathlib.Core.Path.{sym, _∙_}
 use native.Mathlib.Omega.{arith}
 use lib.ListN.{length}
 use borrow.Author.Needs.{needs}
-use Rattle.parse.specs.Inner.{NoPart}
+use Rattle.parse.specs.Inner.{Tick, NoPart}
 use Rattle.parse.proofs.BacktickLaws.{
   Runs,
-  ticks-none,
+  each-none,
   runs-shut,
   runs-start,
   runs-plain,
@@ -30,7 +30,7 @@ abbrev μ-loop : tie.MeasureT-loop
 μ-loop s i₀ i = length s - i
 
 returns : tie.Need-returns Inv-loop μ-loop
-returns c = (omega arith, ticks-none NoPart _ 0 0 (omega arith))
+returns c = (omega arith, each-none (Tick NoPart) _ 0 0 (omega arith))
 
 loop-holds : tie.Need-loop-holds Inv-loop μ-loop
 loop-holds c = (omega arith, runs-start _)
@@ -51,7 +51,7 @@ shared-slice-read-c : tie.Need-shared-slice-read-c Inv-loop μ-loop
 shared-slice-read-c c = search needs
 
 returns-3 : tie.Need-returns-3 Inv-loop μ-loop
-returns-3 c = (omega arith, ticks-none NoPart _ 0 0 (omega arith))
+returns-3 c = (omega arith, each-none (Tick NoPart) _ 0 0 (omega arith))
 
 returns-4 : tie.Need-returns-4 Inv-loop μ-loop
 returns-4 c =

@@ -9,8 +9,8 @@ use borrow.Author.Needs.{needs}
 use Rattle.rst_bytes.specs.Escaped.{taking}
 use Rattle.rst_bytes.proofs.Lists.{part-from}
 use Rattle.rst_bytes.proofs.EscapedLaws.{taking-le}
-use Rattle.parse.specs.Inner.{NoLink}
-use Rattle.parse.proofs.BacktickLaws.{ticks-none, ticks-behind}
+use Rattle.parse.specs.Inner.{Tick, NoLink}
+use Rattle.parse.proofs.BacktickLaws.{each-none, each-behind}
 use Rattle.parse.proofs.BarrenLaws.{barren-first, barren-over}
 use Rattle.parse.proofs.barren.barren.Statement.{statement}
 use Rattle.parse.proofs.barren.barren.Tie as tie
@@ -79,10 +79,10 @@ returns-3 c =
     let w = c .before .before .before .before .before .before .before .before .before .before .before .pre in
     let u = c .unbracketed .ensures in
     let f = barren-first s (w .0) (w .1) _ (ap (taking 0x60 0x3C false 0) (sym (part-from s 1)) ∙ sym (c .before .before .before .before .before .before .before .before .marked .ensures) ∙ c .before .before .before .before .before .before .n .given .1) in
-    (omega (arith, u .0), barren-over s _ _ f (c .before .before .if2 .left) (ticks-behind NoLink s _ _ _ (part-from s _) (u .1)))
+    (omega (arith, u .0), barren-over s _ _ f (c .before .before .if2 .left) (each-behind (Tick NoLink) s _ _ _ (part-from s _) (u .1)))
 
 returns-4 : tie.Need-returns-4
-returns-4 c = (omega arith, ticks-none NoLink _ 0 0 (omega arith))
+returns-4 c = (omega arith, each-none (Tick NoLink) _ 0 0 (omega arith))
 
 pub barren-spec : {M : Type 1} → statement M
 barren-spec =

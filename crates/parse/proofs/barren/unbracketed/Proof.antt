@@ -8,8 +8,8 @@ use lib.ListN.{length, length-drop}
 use borrow.Author.Needs.{needs}
 use Rattle.rst_bytes.proofs.Lists.{part-from}
 use Rattle.rst_bytes.proofs.EscapedLaws.{taking-le}
-use Rattle.parse.specs.Inner.{NoLink, Barren}
-use Rattle.parse.proofs.BacktickLaws.{ticks-none}
+use Rattle.parse.specs.Inner.{Tick, NoLink, Barren}
+use Rattle.parse.proofs.BacktickLaws.{each-none}
 use Rattle.parse.proofs.BarrenLaws.{loop-tick, loop-opened}
 use Rattle.parse.proofs.barren.unbracketed.Statement.{statement}
 use Rattle.parse.proofs.barren.unbracketed.Tie as tie
@@ -21,7 +21,7 @@ abbrev μ-loop : tie.MeasureT-loop
 μ-loop s i₀ i = length s - i
 
 loop-holds : tie.Need-loop-holds Inv-loop μ-loop
-loop-holds c = (omega arith, ticks-none NoLink _ 0 0 (omega arith))
+loop-holds c = (omega arith, each-none (Tick NoLink) _ 0 0 (omega arith))
 
 sub-marked : tie.Need-sub-marked Inv-loop μ-loop
 sub-marked c = search needs

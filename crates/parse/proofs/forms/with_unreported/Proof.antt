@@ -1,93 +1,163 @@
--- `forms::with_unreported` meets its contract: the destination parser is lent what stands behind the first n bytes, of the text and of
--- the scratch.
+-- `forms::with_unreported` meets its contract: where it is known that no block begins there is none; else the reader of both blocks is
+-- lent what stands behind the first n bytes, of the text and of the scratch. Where it finds neither, no block begins there, and what is
+-- learnt of those behind is told.
 -- Assumes nothing.
+use Prim.Native.Nat.{_+_, _-_}
+use mathlib.Core.Path.{_≡_, refl, subst, _∙_}
 use native.Mathlib.Omega.{arith}
+use lib.ListN.{length, drop}
+use borrow.Rule.Slice.PartMut.{putMid}
+use Rattle.restructured_text.proofs.TargetLaws.{label2label-room}
+use Rattle.parse.proofs.FormsLaws.{no-block, unreported-answered, unreported-found, unreported-none, unreported-le, front-kept}
+use Rattle.parse.proofs.UnfollowedLaws.{no-block-unreported, free-nothing, known-free, learnt-free}
 use borrow.Author.Needs.{needs}
-use Rattle.restructured_text.proofs.TargetLaws.{label2dest-room}
-use Rattle.parse.proofs.FormsLaws.{unreported-answered, unreported-found, unreported-none, unreported-le, front-kept}
 use Rattle.parse.proofs.forms.with_unreported.Statement.{statement}
 use Rattle.parse.proofs.forms.with_unreported.Tie as tie
 
-sub-rst-label2dest : tie.Need-sub-rst-label2dest
-sub-rst-label2dest c = search needs
+is-known-requires : tie.Need-is-known-requires
+is-known-requires c κs = search needs
 
-part-rst-label2dest-start : tie.Need-part-rst-label2dest-start
-part-rst-label2dest-start c = search needs
+sub-t7 : tie.Need-sub-t7
+sub-t7 c = c .before .is-known .ensures .0 (c .if1 .taken) .0
 
-part-rst-label2dest-end : tie.Need-part-rst-label2dest-end
-part-rst-label2dest-end c = search needs
+sub-t8 : tie.Need-sub-t8
+sub-t8 c =
+    let w = c .before .is-known .ensures .0 (c .if1 .taken) in
+    omega (arith, w .1)
 
-sub-rst-label2dest-2 : tie.Need-sub-rst-label2dest-2
-sub-rst-label2dest-2 c = search needs
+returns : tie.Need-returns
+returns c =
+    let s = c .before .before .before .before in
+    let w = c .before .is-known .ensures in
+    let h = w .0 (c .if1 .taken) in
+    let g = w .1 (c .if1 .taken) in
+    (no-block-unreported (s .args .s .now) (s .args .n) g, (refl, known-free (s .args .s .now) (s .args .n) (s .args .unfollowed) (s .pre .1) (h .0) (h .1) g))
 
-part-rst-label2dest-start-2 : tie.Need-part-rst-label2dest-start-2
-part-rst-label2dest-start-2 c = search needs
+sub-rst-target : tie.Need-sub-rst-target
+sub-rst-target c = search needs
 
-part-rst-label2dest-end-2 : tie.Need-part-rst-label2dest-end-2
-part-rst-label2dest-end-2 c = search needs
+part-rst-target-start : tie.Need-part-rst-target-start
+part-rst-target-start c = search needs
 
-rst-label2dest-requires : tie.Need-rst-label2dest-requires
-rst-label2dest-requires c κs = search needs
+part-rst-target-end : tie.Need-part-rst-target-end
+part-rst-target-end c = search needs
 
-enum-known-m : tie.Need-enum-known-m
-enum-known-m c = search needs
+sub-rst-target-2 : tie.Need-sub-rst-target-2
+sub-rst-target-2 c = search needs
 
-add-result : tie.Need-add-result
-add-result c =
-    let w = c .before .before .before .before .before .before .before .before .before .before .args in
-    let e = unreported-answered (w .s .now) (w .n) (w .scratch .now) _ _ _ (c .before .before .before .before .before .before .before .before .before .before .pre) (c .before .before .before .before .before .rst-label2dest .ensures .0) (c .before .m .given .1) in
-    omega (arith, unreported-le (w .s .now) (w .n) _ _ _ (c .before .before .before .before .before .before .before .before .before .before .pre .0) e)
+part-rst-target-start-2 : tie.Need-part-rst-target-start-2
+part-rst-target-start-2 c = search needs
+
+part-rst-target-end-2 : tie.Need-part-rst-target-end-2
+part-rst-target-end-2 c = search needs
+
+rst-target-requires : tie.Need-rst-target-requires
+rst-target-requires c κs = search needs
 
 enum-told : tie.Need-enum-told
 enum-told c = search needs
 
+enum-known-m : tie.Need-enum-known-m
+enum-known-m c = search needs
+
+add-t19 : tie.Need-add-t19
+add-t19 c =
+    let s = c .before .before .before .before .before .before .before .before .before .before .before .before in
+    let x = c .before .before .before .before .before .rst-target in
+    let e = unreported-answered (s .args .s .now) (s .args .n) (s .args .scratch .now) (x .last .1 .0) (x .result) _ (s .pre .0) (x .ensures .0) (x .ensures .1 .0) (c .before .m .given .1) in
+    omega (arith, unreported-le (s .args .s .now) (s .args .n) _ _ _ (s .pre .0 .0) (e .1))
+
 enum-told-2 : tie.Need-enum-told-2
 enum-told-2 c = search needs
+
+sub-learnt : tie.Need-sub-learnt
+sub-learnt c = search needs
+
+part-learnt-start : tie.Need-part-learnt-start
+part-learnt-start c = search needs
+
+part-learnt-end : tie.Need-part-learnt-end
+part-learnt-end c = search needs
+
+learnt-requires : tie.Need-learnt-requires
+learnt-requires c κs = search needs
+
+add-t25 : tie.Need-add-t25
+add-t25 c = search needs
+
+enum-told-3 : tie.Need-enum-told-3
+enum-told-3 c = search needs
 
 same-length : tie.Need-same-length
 same-length c = search needs
 
-returns : tie.Need-returns
-returns c =
-    let w = c .before .before .before .before .before .before .before .before .before .before .args in
-    let e = unreported-answered (w .s .now) (w .n) (w .scratch .now) _ _ _ (c .before .before .before .before .before .before .before .before .before .before .pre) (c .before .before .before .before .before .rst-label2dest .ensures .0) (c .before .m .given .1) in
-    (unreported-found (w .s .now) (w .n) _ _ _ e, front-kept (w .n) (w .scratch .now) (c .before .before .before .before .before .rst-label2dest .last .1 .0) (omega (arith, c .before .before .before .before .before .before .before .before .before .before .pre)))
+returns-2 : tie.Need-returns-2
+returns-2 c =
+    let s = c .before .before .before .before .before .before .before .before .before .before .before in
+    let x = c .before .before .before .before .rst-target in
+    let e = unreported-answered (s .args .s .now) (s .args .n) (s .args .scratch .now) (x .last .1 .0) (x .result) _ (s .pre .0) (x .ensures .0) (x .ensures .1 .0) (c .enum-told .given .1) in
+    (unreported-none (s .args .s .now) (s .args .n) (e .1), (front-kept (s .args .n) (s .args .scratch .now) (x .last .1 .0) (omega (arith, s .pre .0)), free-nothing _))
 
 same-length-2 : tie.Need-same-length-2
 same-length-2 c = search needs
 
-returns-2 : tie.Need-returns-2
-returns-2 c =
-    let w = c .before .before .before .before .before .before .before .before .before .args in
-    let e = unreported-answered (w .s .now) (w .n) (w .scratch .now) _ _ _ (c .before .before .before .before .before .before .before .before .before .pre) (c .before .before .before .before .rst-label2dest .ensures .0) (c .enum-told .given .1) in
-    (unreported-none (w .s .now) (w .n) e, front-kept (w .n) (w .scratch .now) (c .before .before .before .before .rst-label2dest .last .1 .0) (omega (arith, c .before .before .before .before .before .before .before .before .before .pre)))
+returns-3 : tie.Need-returns-3
+returns-3 c =
+    let s = c .before .before .before .before .before .before .before .before .before .before .before .before in
+    let x = c .before .before .before .before .before .rst-target in
+    let e = unreported-answered (s .args .s .now) (s .args .n) (s .args .scratch .now) (x .last .1 .0) (x .result) _ (s .pre .0) (x .ensures .0) (x .ensures .1 .0) (c .before .m .given .1) in
+    (unreported-found (s .args .s .now) (s .args .n) _ _ _ (e .1), (front-kept (s .args .n) (s .args .scratch .now) (x .last .1 .0) (omega (arith, s .pre .0)), free-nothing _))
 
 same-length-3 : tie.Need-same-length-3
 same-length-3 c = search needs
 
-returns-3 : tie.Need-returns-3
-returns-3 c =
-    let w = c .before .before .before .before .before .before .before .before .before .args in
-    absurd (label2dest-room _ (unreported-answered (w .s .now) (w .n) (w .scratch .now) _ _ _ (c .before .before .before .before .before .before .before .before .before .pre) (c .before .before .before .before .rst-label2dest .ensures .0) (c .enum-told2 .given .1)))
+returns-4 : tie.Need-returns-4
+returns-4 c =
+    let s = c .before .before .before .before .before .before .before .before .before .before .before .before .before .before .before in
+    let x = c .before .before .before .before .before .before .before .before .rst-target in
+    let e = unreported-answered (s .args .s .now) (s .args .n) (s .args .scratch .now) (x .last .1 .0) (x .result) _ (s .pre .0) (x .ensures .0) (x .ensures .1 .0) (c .before .before .before .before .enum-told2 .given .1) in
+    (unreported-none (s .args .s .now) (s .args .n) (e .1), (front-kept (s .args .n) (putMid (s .args .n) (length (s .args .scratch .now) - s .args .n) (s .args .scratch .now) (x .last .1 .0)) (c .before .before .learnt .last .1 .1 .0) (omega (arith, s .pre .0, c .before .before .before .before .before .before .before .scratch .given)) ∙ front-kept (s .args .n) (s .args .scratch .now) (x .last .1 .0) (omega (arith, s .pre .0)), learnt-free _ _ (no-block (drop (s .args .n) (s .args .s .now)) (e .0) (e .1)) (c .before .before .learnt .ensures .1)))
+
+same-length-4 : tie.Need-same-length-4
+same-length-4 c = search needs
+
+returns-5 : tie.Need-returns-5
+returns-5 c =
+    let s = c .before .before .before .before .before .before .before .before .before .before .before in
+    let x = c .before .before .before .before .rst-target in
+    let e = unreported-answered (s .args .s .now) (s .args .n) (s .args .scratch .now) (x .last .1 .0) (x .result) _ (s .pre .0) (x .ensures .0) (x .ensures .1 .0) (c .enum-told3 .given .1) in
+    absurd (label2label-room _ (e .0))
 
 pub with-unreported-spec : {M : Type 1} → statement M
 with-unreported-spec =
     tie.close
     (tie.spec
-    sub-rst-label2dest
-    part-rst-label2dest-start
-    part-rst-label2dest-end
-    sub-rst-label2dest-2
-    part-rst-label2dest-start-2
-    part-rst-label2dest-end-2
-    rst-label2dest-requires
-    enum-known-m
-    add-result
-    enum-told
-    enum-told-2
-    same-length
+    is-known-requires
+    sub-t7
+    sub-t8
     returns
-    same-length-2
+    sub-rst-target
+    part-rst-target-start
+    part-rst-target-end
+    sub-rst-target-2
+    part-rst-target-start-2
+    part-rst-target-end-2
+    rst-target-requires
+    enum-told
+    enum-known-m
+    add-t19
+    enum-told-2
+    sub-learnt
+    part-learnt-start
+    part-learnt-end
+    learnt-requires
+    add-t25
+    enum-told-3
+    same-length
     returns-2
+    same-length-2
+    returns-3
     same-length-3
-    returns-3)
+    returns-4
+    same-length-4
+    returns-5)

@@ -1,5 +1,5 @@
 -- `rounds::reference_at` meets its contract: after blanks or at a start it is what `reference` finds, behind one of the openings if
--- there is one.
+-- there is one. What is told of blocks behind it is told of the whole text.
 -- Assumes nothing.
 use mathlib.Core.Path.{sym, ap, _∙_}
 use mathlib.Core.List.{List}
@@ -10,7 +10,9 @@ use Rattle.rst_bytes.proofs.Lists.{part-from}
 use Rattle.parse.specs.Link.{behind}
 use Rattle.parse.specs.Forms.{tried, rst}
 use Rattle.parse.specs.Scan.{referenceAt, followed}
+use Rattle.parse.proofs.UnfollowedLaws.{unfollowed-part, part-room}
 use Rattle.parse.proofs.RoundLaws.{reference-opened, reference-plain}
+use native.Mathlib.Omega.{arith}
 use borrow.Author.Needs.{needs}
 use Rattle.parse.proofs.rounds.reference_at.Statement.{statement}
 use Rattle.parse.proofs.rounds.reference_at.Tie as tie
@@ -33,20 +35,25 @@ part-reference-start c = search needs
 part-reference-end : tie.Need-part-reference-end
 part-reference-end c = search needs
 
+place-from-requires : tie.Need-place-from-requires
+place-from-requires c κs = search needs
+
 reference-requires : tie.Need-reference-requires
-reference-requires c κs = search needs
+reference-requires c κs =
+    let w = c .before .before .before .before .before .before .before .before .before in
+    (part-room (w .args .i + 1) (w .args .s .now) (w .args .scratch .now) (w .pre .0 .1), unfollowed-part (w .args .s .now) _ (w .args .i) (w .args .i + 1) (w .args .unfollowed) _ (w .pre .1) (omega arith) (part-from (w .args .s .now) (w .args .i + 1)) (c .place-from .ensures))
 
 same-length : tie.Need-same-length
 same-length c = search needs
 
 returns : tie.Need-returns
 returns c =
-    let w = c .before .before .before .before .before .before .before .before .before .before .before .args in (
+    let w = c .before .before .before .before .before .before .before .before .before .before .before .before .args in (
       c .before .before .reference .ensures .0
           ∙ ap (λ (l : List ℕ). behind (w .i + 1) (followed rst l (tried (rst .references) l))) (part-from (w .s .now) (w .i + 1))
-          ∙ reference-opened (w .s .now) (w .i) (c .before .before .before .before .before .before .before .before .before .before .before .pre .0) (sym (c .before .before .before .before .before .before .is-opening .ensures) ∙ c .before .before .before .before .before .if2 .taken)
-          ∙ ap (λ (b : Bool). behind (w .i) (followed rst (drop (w .i) (w .s .now)) (referenceAt rst b (drop (w .i) (w .s .now))))) (sym (c .before .before .before .before .before .before .before .before .if1 .taken)),
-      c .before .before .reference .ensures .1,
+          ∙ reference-opened (w .s .now) (w .i) (c .before .before .before .before .before .before .before .before .before .before .before .before .pre .0 .0) (sym (c .before .before .before .before .before .before .before .is-opening .ensures) ∙ c .before .before .before .before .before .before .if2 .taken)
+          ∙ ap (λ (b : Bool). behind (w .i) (followed rst (drop (w .i) (w .s .now)) (referenceAt rst b (drop (w .i) (w .s .now))))) (sym (c .before .before .before .before .before .before .before .before .before .if1 .taken)),
+      (c .before .before .reference .ensures .1 .0, c .before .before .reference .ensures .1 .1 (w .s .now) (part-from (w .s .now) (w .i + 1))),
     )
 
 sub-reference-2 : tie.Need-sub-reference-2
@@ -58,20 +65,25 @@ part-reference-start-2 c = search needs
 part-reference-end-2 : tie.Need-part-reference-end-2
 part-reference-end-2 c = search needs
 
+place-from-requires-2 : tie.Need-place-from-requires-2
+place-from-requires-2 c κs = search needs
+
 reference-requires-2 : tie.Need-reference-requires-2
-reference-requires-2 c κs = search needs
+reference-requires-2 c κs =
+    let w = c .before .before .before .before .before .before .before .before .before in
+    (part-room (w .args .i) (w .args .s .now) (w .args .scratch .now) (w .pre .0 .1), unfollowed-part (w .args .s .now) _ (w .args .i) (w .args .i) (w .args .unfollowed) _ (w .pre .1) (omega arith) (part-from (w .args .s .now) (w .args .i)) (c .place-from2 .ensures))
 
 same-length-2 : tie.Need-same-length-2
 same-length-2 c = search needs
 
 returns-2 : tie.Need-returns-2
 returns-2 c =
-    let w = c .before .before .before .before .before .before .before .before .before .before .before .args in (
+    let w = c .before .before .before .before .before .before .before .before .before .before .before .before .args in (
       c .before .before .reference2 .ensures .0
           ∙ ap (λ (l : List ℕ). behind (w .i) (followed rst l (tried (rst .references) l))) (part-from (w .s .now) (w .i))
-          ∙ reference-plain (w .s .now) (w .i) (c .before .before .before .before .before .before .before .before .before .before .before .pre .0) (sym (c .before .before .before .before .before .before .is-opening .ensures) ∙ c .before .before .before .before .before .if2 .left)
-          ∙ ap (λ (b : Bool). behind (w .i) (followed rst (drop (w .i) (w .s .now)) (referenceAt rst b (drop (w .i) (w .s .now))))) (sym (c .before .before .before .before .before .before .before .before .if1 .taken)),
-      c .before .before .reference2 .ensures .1,
+          ∙ reference-plain (w .s .now) (w .i) (c .before .before .before .before .before .before .before .before .before .before .before .before .pre .0 .0) (sym (c .before .before .before .before .before .before .before .is-opening .ensures) ∙ c .before .before .before .before .before .before .if2 .left)
+          ∙ ap (λ (b : Bool). behind (w .i) (followed rst (drop (w .i) (w .s .now)) (referenceAt rst b (drop (w .i) (w .s .now))))) (sym (c .before .before .before .before .before .before .before .before .before .if1 .taken)),
+      (c .before .before .reference2 .ensures .1 .0, c .before .before .reference2 .ensures .1 .1 (w .s .now) (part-from (w .s .now) (w .i))),
     )
 
 returns-3 : tie.Need-returns-3
@@ -87,12 +99,14 @@ reference-at-spec =
     sub-reference
     part-reference-start
     part-reference-end
+    place-from-requires
     reference-requires
     same-length
     returns
     sub-reference-2
     part-reference-start-2
     part-reference-end-2
+    place-from-requires-2
     reference-requires-2
     same-length-2
     returns-2

@@ -2,13 +2,15 @@
 -- as that took.
 -- Assumes nothing.
 use Prim.Native.Nat.{_+_}
-use mathlib.Core.Path.{subst, _∙_}
+use mathlib.Core.Path.{refl, subst, _∙_}
 use native.Mathlib.Omega.{arith}
 use lib.ListN.{drop}
 use Rattle.parse.specs.Link.{Ends}
-use Rattle.parse.proofs.BacktickLaws.{holds-later}
+use Rattle.parse.specs.Inner.{Any, NoBlock}
+use Rattle.parse.proofs.BacktickLaws.{each-later, holds-later}
 use Rattle.parse.proofs.RoundLaws.{line-found, line-blank, line-room, lfs-le, blanks-le, round-lines, line-text}
 use borrow.Author.Needs.{needs}
+use Rattle.parse.proofs.UnfollowedLaws.{free-nothing}
 use Rattle.parse.proofs.rounds.round.Statement.{statement}
 use Rattle.parse.proofs.rounds.round.Tie as tie
 
@@ -35,7 +37,7 @@ starts-requires c κs = search needs
 block-at-requires : tie.Need-block-at-requires
 block-at-requires c κs =
     let w = c .before .before .before .before .before .before .args in
-    (lfs-le (w .s .now) (w .i) _ (c .before .before .before .before .before .before .pre .0 .0) (c .before .before .newlines .ensures), c .before .before .before .before .before .before .pre .0 .1)
+    ((lfs-le (w .s .now) (w .i) _ (c .before .before .before .before .before .before .pre .0 .0) (c .before .before .newlines .ensures), c .before .before .before .before .before .before .pre .0 .1), each-later (Any NoBlock) (w .s .now) (w .i) _ _ (omega arith) (c .before .before .before .before .before .before .pre .1 .2))
 
 enum-known-x : tie.Need-enum-known-x
 enum-known-x c = search needs
@@ -50,7 +52,7 @@ returns c =
     let line = c .before .before .before .before .before .before .before .starts .result in (
       line-found (w .i + n) (drop (w .i + n) (w .s .now)) line (c .before .before .before .before .before .block-at .result) (c .before .before .before .before .before .block-at .last .1 .1 .0) (c .before .before .before .before .before .block-at .ensures .0) _ (c .before .x .given .1)
           ∙ round-lines (w .s .now) (w .i) _ (c .before .before .before .before .before .before .before .before .before .before .before .before .pre .0 .0) (c .before .before .before .before .before .before .before .before .newlines .ensures) (w .start) line (c .before .before .before .before .before .before .before .starts .ensures),
-      (subst Ends (c .before .x .given .1) (c .before .before .before .before .before .block-at .ensures .1), tt),
+      (subst Ends (c .before .x .given .1) (c .before .before .before .before .before .block-at .ensures .1), free-nothing _),
     )
 
 enum-told : tie.Need-enum-told
@@ -69,7 +71,7 @@ returns-2 c =
     let line = c .before .before .before .before .before .before .starts .result in (
       line-room (w .i + n) (drop (w .i + n) (w .s .now)) line (c .before .before .before .before .block-at .result) (c .before .before .before .before .block-at .last .1 .1 .0) (c .before .before .before .before .block-at .ensures .0) (c .enum-told2 .given .1)
           ∙ round-lines (w .s .now) (w .i) _ (c .before .before .before .before .before .before .before .before .before .before .before .pre .0 .0) (c .before .before .before .before .before .before .before .newlines .ensures) (w .start) line (c .before .before .before .before .before .before .starts .ensures),
-      (tt, tt),
+      (tt, refl),
     )
 
 sub-space0 : tie.Need-sub-space0

@@ -2,8 +2,8 @@
 -- Assumes nothing.
 use borrow.Author.Needs.{needs}
 use Rattle.rst_bytes.proofs.Lists.{part-from}
-use Rattle.parse.specs.Inner.{NoPart}
-use Rattle.parse.proofs.BacktickLaws.{ticks-behind}
+use Rattle.parse.specs.Inner.{Tick, NoPart}
+use Rattle.parse.proofs.BacktickLaws.{each-behind}
 use Rattle.parse.proofs.rounds.shut_from.Statement.{statement}
 use Rattle.parse.proofs.rounds.shut_from.Tie as tie
 
@@ -32,7 +32,7 @@ returns-3 : tie.Need-returns-3
 returns-3 c =
     let s = c .before .before .before .before .before .args .s .now in
     let i = c .before .before .before .before .before .args .i in
-    ticks-behind NoPart s _ i _ (part-from s i) (c .before .unclosed .ensures .1)
+    each-behind (Tick NoPart) s _ i _ (part-from s i) (c .before .unclosed .ensures .1)
 
 pub shut-from-spec : {M : Type 1} → statement M
 shut-from-spec =

@@ -1,0 +1,505 @@
+-- The laws of `specs/Targetless.antt`. From each `_` that a run passes a run goes on to the same end, since behind `_` no escape is open: so
+-- where that end makes no name, or one whose target is refused, none of them begins a target. Behind a space no escape is open either: so
+-- a wrong escape refuses each destination that begins before it. A block that starts later on the same line with the same indent has the
+-- end of the first one's text: the rest of the line and the same further lines.
+-- Assumes nothing.
+use Prim.Native.Nat.{ℕ, zero, suc, _+_, _-_, _<_, _≤_}
+use native.Mathlib.Omega.{arith}
+use mathlib.Core.Path.{_≡_, refl, sym, ap, subst, subst⁻¹, _∙_}
+use mathlib.Core.List.{List, [], _∷_, _++_}
+use mathlib.Core.Bool.{Bool, true, false, false≢true, true≢false}
+use mathlib.Core.Logic.{_⊎_, inl, inr, ⊎-elim}
+use lib.Dec.{eqb}
+use lib.ListN.{length, getD, drop, take, length-drop}
+use lib.Seq.{drop-drop, getD-drop, length-take-le, drop-append-le}
+use borrow.Author.Tests.{eq-eqb, ne-eqb, eqb-true}
+use Rattle.rst_bytes.specs.Escaped.{isEscapable, isStop, taking, escapedOf}
+use Rattle.rst_bytes.specs.Line.{startsLf, lineFrom, notLineEndingOf, space0Of}
+use Rattle.rst_bytes.specs.Tag.{startsWith}
+use Rattle.rst_bytes.specs.declared.Part.{Part}
+use Rattle.rst_bytes.specs.declared.Part.the-variants.{Taken, Refused}
+use Rattle.rst_bytes.proofs.Lists.{drop-next, drop-end, part-from}
+use Rattle.rst_bytes.proofs.TestLaws.{by-test, by-test₂, lt-or-le}
+use Rattle.rst_bytes.proofs.EscapedLaws.{refused-taken, taken-is, taken-from, at-end, at-plain, at-stop, at-alone, at-pair, at-wrong}
+use Rattle.rst_bytes.proofs.LineLaws.{not-line-ending-le, space0-le}
+use Rattle.restructured_text.specs.declared.block.Block.{Block}
+use Rattle.restructured_text.specs.declared.block.Block.the-variants.{Joined}
+use Rattle.restructured_text.specs.declared.target.Raw.{Raw}
+use Rattle.restructured_text.specs.declared.transform.Transformed.the-variants.{Wrong}
+use Rattle.restructured_text.specs.Block.{startOf, linesOf, BlockText, block, no-block, no-scratch, blockOf, blockIn, lentBlock}
+use Rattle.restructured_text.specs.Delimited.{delimitedOf}
+use Rattle.restructured_text.specs.Strings.{none}
+use Rattle.restructured_text.specs.Target.{namedOf, anonymousOf, label2targetOf, startsTarget}
+use Rattle.restructured_text.specs.Definition.{rawOf}
+use Rattle.restructured_text.specs.Transform.{Given, whole, refused, onto, unescapedOf, isDestinationEscapable, unblank, keptOf, destinationOf, answerOf, bytesOf}
+use Rattle.restructured_text.specs.Targetless.{NoTarget, Targetless, Unnamed, Nameless, Spaced, Misescaped, Dead, Row, Headed}
+use Rattle.restructured_text.proofs.DelimitedLaws.{delimited-refused, delimited-unclosed, delimited-taken}
+use Rattle.restructured_text.proofs.TransformLaws as TransformLaws
+use Rattle.restructured_text.proofs.TransformLaws.{answer-refused, at-two}
+use Rattle.restructured_text.proofs.BlockLaws.{from, start-is, start-taken, start-refused, block-none, block-taken, lent-short, lent-enough}
+use Rattle.restructured_text.proofs.TargetLaws.{quoted-within, plain-none, plain-named, name-plain, name-quoted, parse-none, named-none, named-refused, anonymous-refuses, raw-all, no-target}
+
+-- A colon stops, another byte does not.
+colon-stops : (b : ℕ) → b ≡ 0x3A → isStop 0x3A 0x3A b ≡ true
+unfolding isStop
+colon-stops b e = rw e refl
+
+other-passes : (b : ℕ) → (b ≡ 0x3A → ⊥) → isStop 0x3A 0x3A b ≡ false
+unfolding isStop
+other-passes b e = simp (ne-eqb b 0x3A e)
+
+-- From each _ before place i, and from place m on, the run goes on from there.
+abbrev pub Pending : ℕ → ℕ → List ℕ → Type 0
+Pending m i t =
+    (k : ℕ) → m ≤ k → k < i → getD t k 0 ≡ 0x5F → taking 0x3A 0x3A false (k + 1) (drop (k + 1) t) ≡ taking 0x3A 0x3A false i (drop i t)
+
+pub pending-none : (t : List ℕ) (m : ℕ) → Pending m m t
+pending-none t m k h l = absurd (omega arith)
+
+module _ (t : List ℕ) (m i : ℕ) (p : Pending m i t) where
+  -- at the last place before it nothing was read yet
+  here : (k j : ℕ) → k + 1 ≡ j → taking 0x3A 0x3A false (k + 1) (drop (k + 1) t) ≡ taking 0x3A 0x3A false j (drop j t)
+  here k j e = ap (λ (n : ℕ). taking 0x3A 0x3A false n (drop n t)) e
+
+  pub pending-plain : i < length t → (getD t i 0 ≡ 0x5C → ⊥) → (getD t i 0 ≡ 0x3A → ⊥) → Pending m (i + 1) t
+  pending-plain h e f k y l b =
+      ⊎-elim
+      (λ q. p k y q b ∙ at-plain 0x3A 0x3A t i h e (other-passes _ f))
+      (λ q. here k (i + 1) (omega arith))
+      (lt-or-le k i)
+
+  pub pending-pair : i + 1 < length t → getD t i 0 ≡ 0x5C → isEscapable (getD t (i + 1) 0) ≡ true → Pending m (i + 2) t
+  pending-pair h e f k y l b =
+      ⊎-elim
+      (λ q. p k y q b ∙ at-pair 0x3A 0x3A t i h e f)
+      (λ q. ⊎-elim
+      (λ r.
+      let z : k ≡ i = omega arith in
+      absurd (omega (arith, ap (λ (j : ℕ). getD t j 0) (sym z) ∙ b, e, ap (λ (j : ℕ). getD t j 0) z)))
+      (λ r. here k (i + 2) (omega arith))
+      (lt-or-le k (i + 1)))
+      (lt-or-le k i)
+
+-- what is refused
+dead-refused : (v : List ℕ) → Dead v → destinationOf (take (rawOf v .len) (drop (rawOf v .start) v)) ≡ refused (bytesOf (keptOf (take (rawOf v .len) (drop (rawOf v .start) v))))
+unfolding destinationOf
+dead-refused v d =
+    let e = answer-refused (keptOf (take (rawOf v .len) (drop (rawOf v .start) v))) (sym d) in
+    ap (λ (g : Given). elim g [ whole l ↦ unescapedOf true l | refused l ↦ refused l ]) e
+
+-- A plain name may begin at place k.
+module _ (t : List ℕ) (k : ℕ) (h : k < length t) (w : getD t k 0 ≡ 0x5F) (q : delimitedOf (0x5F ∷ 0x60 ∷ []) 0x60 0x60 (0x60 ∷ 0x3A ∷ 0x20 ∷ []) (drop k t) ≡ Refused) where
+  begins : startsWith (0x5F ∷ []) (drop k t) ≡ true
+  unfolding startsWith
+  begins = rw (drop-next t k h) (rw (eq-eqb _ _ w, startsWith) refl)
+
+  behind : drop (k + 1) t ≡ drop 1 (drop k t)
+  behind = sym (drop-drop 1 k t)
+
+  -- where its run ends it is not closed, or a target stands behind it that is refused
+  unnamed :
+      ((n : ℕ) → escapedOf 0x3A 0x3A (drop (k + 1) t) ≡ Taken n → (startsWith (0x3A ∷ 0x20 ∷ []) (drop n (drop (k + 1) t)) ≡ false) ⊎ Dead (drop (k + 1 + n + 2) t))
+      → Unnamed (drop k t)
+  unnamed f label size = go (escapedOf 0x3A 0x3A (drop (k + 1) t)) refl
+    where
+      nameless : delimitedOf (0x5F ∷ []) 0x3A 0x3A (0x3A ∷ 0x20 ∷ []) (drop k t) ≡ Refused → namedOf label (drop k t) size ≡ none
+      nameless e = named-none label (drop k t) size (parse-none label (drop k t) (name-plain (drop k t) q ∙ plain-none (drop k t) e))
+
+      rest : (n : ℕ) → drop (k + 1 + n + 2) t ≡ drop (n + 3) (drop k t)
+      rest n =
+          let z : k + (n + 3) ≡ k + 1 + n + 2 = omega arith in
+          sym (drop-drop (n + 3) k t ∙ ap (λ (j : ℕ). drop j t) z)
+
+      ended : (n : ℕ) → escapedOf 0x3A 0x3A (drop (k + 1) t) ≡ Taken n → Dead (drop (k + 1 + n + 2) t) → (y : Bool) → startsWith (0x3A ∷ 0x20 ∷ []) (drop n (drop (k + 1) t)) ≡ y → namedOf label (drop k t) size ≡ none
+      ended n e d true g =
+          named-refused (drop k t) size _ (n + 3) (drop (k + 1 + n + 2) t)
+          (name-plain (drop k t) q ∙ plain-named (drop k t) n (delimited-taken (0x5F ∷ []) 0x3A 0x3A (0x3A ∷ 0x20 ∷ []) (drop k t) (drop (k + 1) t) begins behind n _ e refl g))
+          (rest n) _ (dead-refused (drop (k + 1 + n + 2) t) d) label
+      ended n e d false g = nameless (delimited-unclosed (0x5F ∷ []) 0x3A 0x3A (0x3A ∷ 0x20 ∷ []) (drop k t) (drop (k + 1) t) begins behind n _ e refl g)
+
+      go : (x : Part) → escapedOf 0x3A 0x3A (drop (k + 1) t) ≡ x → namedOf label (drop k t) size ≡ none
+      go (Taken n) e =
+          ⊎-elim
+          (λ g. nameless (delimited-unclosed (0x5F ∷ []) 0x3A 0x3A (0x3A ∷ 0x20 ∷ []) (drop k t) (drop (k + 1) t) begins behind n _ e refl g))
+          (λ d. ended n e d _ refl)
+          (f n e)
+      go Refused e = nameless (delimited-refused (0x5F ∷ []) 0x3A 0x3A (0x3A ∷ 0x20 ∷ []) (drop k t) (drop (k + 1) t) begins behind e)
+
+-- Where the run ends at place i: none of the names before it is one.
+module _ (t : List ℕ) (m i : ℕ) (p : Pending m i t) (h : i ≤ length t) where
+  nameless-refused : taking 0x3A 0x3A false i (drop i t) ≡ Refused → Nameless m i t
+  nameless-refused e k z l w q =
+      unnamed t k (omega arith) w q (λ n f. absurd (refused-taken (k + 1 + n) (sym e ∙ sym (p k z l w) ∙ taken-from 0x3A 0x3A (k + 1) (drop (k + 1) t) n f)))
+
+  nameless-stop : taking 0x3A 0x3A false i (drop i t) ≡ Taken i → (startsWith (0x3A ∷ 0x20 ∷ []) (drop i t) ≡ false) ⊎ Dead (drop (i + 2) t) → Nameless m i t
+  nameless-stop e g k z l w q =
+      unnamed t k (omega arith) w q (λ n f.
+      let y : i ≡ k + 1 + n = taken-is i (k + 1 + n) (sym e ∙ sym (p k z l w) ∙ taken-from 0x3A 0x3A (k + 1) (drop (k + 1) t) n f) in
+      ⊎-elim
+      (λ a. inl (ap (startsWith (0x3A ∷ 0x20 ∷ [])) (drop-drop n (k + 1) t ∙ ap (λ (j : ℕ). drop j t) (sym y)) ∙ a))
+      (λ d. inr (subst (λ (j : ℕ). Dead (drop (j + 2) t)) y d))
+      g)
+
+  -- by the code's tests
+  module _ (l : i < length t) (e : getD t i 0 ≡ 0x3A) where
+    stops : taking 0x3A 0x3A false i (drop i t) ≡ Taken i
+    stops = at-stop 0x3A 0x3A t i l (λ (f : getD t i 0 ≡ 0x5C). absurd (omega (arith, e, f))) (colon-stops _ e)
+
+    pub nameless-colon : startsWith (0x3A ∷ 0x20 ∷ []) (from t i) ≡ false → Nameless m i t
+    nameless-colon g = nameless-stop stops (inl (ap (startsWith (0x3A ∷ 0x20 ∷ [])) (sym (part-from t i)) ∙ g))
+
+    pub nameless-dead : Dead (drop (i + 2) t) → Nameless m i t
+    nameless-dead d = nameless-stop stops (inr d)
+
+  pub nameless-end : length t ≤ i → Nameless m i t
+  unfolding startsWith
+  nameless-end l = nameless-stop (at-end 0x3A 0x3A t i l) (inl (rw (drop-end t i l) refl))
+
+  pub nameless-alone : i < length t → length t ≤ i + 1 → getD t i 0 ≡ 0x5C → Nameless m i t
+  nameless-alone l g e = nameless-refused (at-alone 0x3A 0x3A t i l g e)
+
+  pub nameless-wrong : i + 1 < length t → getD t i 0 ≡ 0x5C → isEscapable (getD t (i + 1) 0) ≡ false → Nameless m i t
+  nameless-wrong l e f = nameless-refused (at-wrong 0x3A 0x3A t i l e f)
+
+-- of no places
+pub nameless-none : (t : List ℕ) (m n : ℕ) → n ≤ m → Nameless m n t
+nameless-none t m n h k l g = absurd (omega arith)
+
+-- A name in backticks, with a target that is refused.
+pub quoted-dead :
+    (t : List ℕ) (k n : ℕ) (u : List ℕ) → u ≡ drop k t → delimitedOf (0x5F ∷ 0x60 ∷ []) 0x60 0x60 (0x60 ∷ 0x3A ∷ 0x20 ∷ []) u ≡ Taken n
+    → Dead (drop (k + (n + 5)) t) → Unnamed (drop k t)
+quoted-dead t k n u i e d label size =
+    named-refused (drop k t) size _ (n + 5) (drop (k + (n + 5)) t) (name-quoted (drop k t) n (ap (delimitedOf (0x5F ∷ 0x60 ∷ []) 0x60 0x60 (0x60 ∷ 0x3A ∷ 0x20 ∷ [])) (sym i) ∙ e)) (sym (drop-drop (n + 5) k t)) _
+    (dead-refused (drop (k + (n + 5)) t) d) label
+
+-- and where its end stands
+pub quoted-end :
+    (t : List ℕ) (k n : ℕ) (u : List ℕ) → u ≡ drop k t → delimitedOf (0x5F ∷ 0x60 ∷ []) 0x60 0x60 (0x60 ∷ 0x3A ∷ 0x20 ∷ []) u ≡ Taken n → k ≤ length t → k + (n + 5) ≤ length t
+quoted-end t k n u i e h = omega (arith, quoted-within u n e, ap length i, length-drop k t)
+
+-- What a destination may not have.
+unfoldable pub isRefused : Given → Bool
+isRefused (whole l) = false
+isRefused (refused l) = true
+
+onto-refused : (l : List ℕ) (g : Given) → isRefused (onto l g) ≡ isRefused g
+unfolding isRefused
+onto-refused l (whole x) = refl
+onto-refused l (refused x) = refl
+
+is-refused : (g : Given) → isRefused g ≡ true → answerOf g ≡ Wrong
+unfolding isRefused
+is-refused (whole x) e = absurd (false≢true e)
+is-refused (refused x) e = refl
+
+kept-other : (t : List ℕ) (i : ℕ) → i < length t → (getD t i 0 ≡ 0x5C → ⊥) → keptOf (drop i t) ≡ onto (unblank (getD t i 0)) (keptOf (drop (i + 1) t))
+kept-other t i h e = TransformLaws.at-other isDestinationEscapable (λ c. 0x5C ∷ c ∷ []) unblank t i h e
+
+-- From each place before i, and from place m on, at which a destination may begin it is refused if it is from place i on.
+abbrev pub Reaching : ℕ → ℕ → List ℕ → Type 0
+Reaching m i t = (k : ℕ) → m ≤ k → k ≤ i → Spaced k t → isRefused (keptOf (drop k t)) ≡ isRefused (keptOf (drop i t))
+
+pub reaching-none : (t : List ℕ) (m : ℕ) → Reaching m m t
+reaching-none t m k h l s = let z : k ≡ m = omega arith in ap (λ (j : ℕ). isRefused (keptOf (drop j t))) z
+
+pub misescaped-none : (t : List ℕ) → Misescaped 0 t
+misescaped-none t i h = absurd (omega arith)
+
+module _ (t : List ℕ) (m i : ℕ) (p : Reaching m i t) where
+  reach-last : (k j : ℕ) → k ≡ j → isRefused (keptOf (drop k t)) ≡ isRefused (keptOf (drop j t))
+  reach-last k j e = ap (λ (n : ℕ). isRefused (keptOf (drop n t))) e
+
+  pub reaching-plain : i < length t → (getD t i 0 ≡ 0x5C → ⊥) → Reaching m (i + 1) t
+  reaching-plain h e k y l s =
+      ⊎-elim
+      (λ q. p k y (omega arith) s ∙ ap isRefused (kept-other t i h e) ∙ onto-refused (unblank (getD t i 0)) (keptOf (drop (i + 1) t)))
+      (λ q. reach-last k (i + 1) (omega arith))
+      (lt-or-le k (i + 1))
+
+  pub reaching-pair : i + 1 < length t → getD t i 0 ≡ 0x5C → isDestinationEscapable (getD t (i + 1) 0) ≡ true → Reaching m (i + 2) t
+  reaching-pair h e f k y l s =
+      ⊎-elim
+      (λ q. p k y (omega arith) s ∙ ap isRefused (at-two t i h e f) ∙ onto-refused (getD t i 0 ∷ getD t (i + 1) 0 ∷ []) (keptOf (drop (i + 2) t)))
+      (λ q. ⊎-elim
+      (λ r. absurd (between (omega arith) s))
+      (λ r. reach-last k (i + 2) (omega arith))
+      (lt-or-le k (i + 2)))
+      (lt-or-le k (i + 1))
+    where
+      between : k ≡ i + 1 → Spaced k t → ⊥
+      between z s =
+          let y : k - 1 ≡ i = omega arith in
+          ⊎-elim (λ q. omega arith) (λ q. omega (arith, q, ap (λ (j : ℕ). getD t j 0) y, e)) s
+
+  -- a wrong escape stands at place i
+  module _ (w : Misescaped m t) (e : keptOf (drop i t) ≡ refused []) where
+    pub misescaped-next : Misescaped (i + 1) t
+    unfolding isRefused
+    misescaped-next k l s =
+        ⊎-elim
+        (λ q. w k q s)
+        (λ q. is-refused (keptOf (drop k t)) (p k q (omega arith) s ∙ ap isRefused e))
+        (lt-or-le k m)
+
+-- by the code's tests
+pub kept-alone : (t : List ℕ) (i : ℕ) → i < length t → length t ≤ i + 1 → getD t i 0 ≡ 0x5C → keptOf (drop i t) ≡ refused []
+kept-alone t i h l e = TransformLaws.at-alone isDestinationEscapable (λ c. 0x5C ∷ c ∷ []) unblank t i h l e
+
+pub kept-wrong : (t : List ℕ) (i : ℕ) → i + 1 < length t → getD t i 0 ≡ 0x5C → isDestinationEscapable (getD t (i + 1) 0) ≡ false → keptOf (drop i t) ≡ refused []
+kept-wrong t i h e f = TransformLaws.at-wrong isDestinationEscapable (λ c. 0x5C ∷ c ∷ []) unblank t i h e f
+
+-- A target that is refused, by the code's tests: r is what its reader gave of v.
+module _ (v : List ℕ) (r : Raw) (i : r ≡ rawOf v) where
+  pub dead-alias : (n : ℕ) → Misescaped n (take (r .start + r .len - r .start) (drop (r .start) v)) → 0 < n → Dead v
+  dead-alias n w h =
+      let z : r .start + r .len - r .start ≡ r .len = omega arith in
+      subst (λ (y : Raw). answerOf (keptOf (take (y .len) (drop (y .start) v))) ≡ Wrong) i
+      (subst (λ (k : ℕ). answerOf (keptOf (take k (drop (r .start) v))) ≡ Wrong) z (w 0 h (inl refl)))
+
+  pub dead-rest : (t : List ℕ) (n k : ℕ) → v ≡ drop k t → r .alias ≡ false → Misescaped n t → k < n → Spaced k t → Dead v
+  dead-rest t n k j a w h s =
+      subst (λ (y : Raw). answerOf (keptOf (take (y .len) (drop (y .start) v))) ≡ Wrong) i
+      (ap (λ (l : List ℕ). answerOf (keptOf l)) (raw-all v r i a ∙ j) ∙ w k h s)
+
+-- A line from a later place on.
+abbrev Counted : ℕ → ℕ → Part → Part → Type 0
+Counted m j (Taken n) y = (m ≤ n) × (y ≡ Taken (j + (n - m)))
+Counted m j Refused y = Unit {0}
+
+counted : (l : List ℕ) (m j : ℕ) → Counted m j (lineFrom m l) (lineFrom j l)
+unfolding lineFrom
+counted [] m j = (omega arith, ap Taken (omega arith))
+counted (b ∷ l) m j =
+    by-test₂ (Counted m j) (eqb b 10) _ _ _ _
+    (λ e. here)
+    (λ e. by-test₂ (Counted m j) (eqb b 13) _ _ _ _
+    (λ f. by-test₂ (Counted m j) (startsLf l) _ _ _ _ (λ g. here) (λ g. tt))
+    (λ f. more (lineFrom (m + 1) l) _ (counted l (m + 1) (j + 1))))
+  where
+    here : Counted m j (Taken m) (Taken j)
+    here = (omega arith, ap Taken (omega arith))
+
+    more : (x y : Part) → Counted (m + 1) (j + 1) x y → Counted m j x y
+    more (Taken n) y w =
+        let z : j + 1 + (n - (m + 1)) ≡ j + (n - m) = omega (arith, w .0) in
+        (omega (arith, w .0), w .1 ∙ ap Taken z)
+    more Refused y w = tt
+
+line-drop : (x : List ℕ) (m n k j : ℕ) → lineFrom m x ≡ Taken n → m + k ≤ n → lineFrom j (drop k x) ≡ Taken (j + (n - (m + k)))
+unfolding lineFrom
+line-drop x m n zero j e h =
+    let z : n - m ≡ n - (m + 0) = omega arith in
+    subst (λ (r : Part). Counted m j r (lineFrom j x)) e (counted x m j) .1 ∙ ap (λ (i : ℕ). Taken (j + i)) z
+line-drop [] m n (suc k) j e h = absurd (omega (arith, taken-is m n e))
+line-drop (b ∷ x) m n (suc k) j e h =
+    by-test (λ r. r ≡ Taken n → lineFrom j (drop k x) ≡ Taken (j + (n - (m + suc k)))) (eqb b 10) _ _
+    (λ f g. absurd (omega (arith, taken-is m n g)))
+    (λ f. by-test (λ r. r ≡ Taken n → lineFrom j (drop k x) ≡ Taken (j + (n - (m + suc k)))) (eqb b 13) _ _
+    (λ g. by-test (λ r. r ≡ Taken n → lineFrom j (drop k x) ≡ Taken (j + (n - (m + suc k)))) (startsLf x) _ _
+    (λ i q. absurd (omega (arith, taken-is m n q)))
+    (λ i q. absurd (refused-taken n q)))
+    (λ g q.
+    let z : n - (m + 1 + k) ≡ n - (m + suc k) = omega arith in
+    line-drop x (m + 1) n k j q (omega arith) ∙ ap (λ (i : ℕ). Taken (j + i)) z))
+    e
+
+-- n bytes of a text from a place k of them on, and more behind them
+drop-take : (k n : ℕ) (x : List ℕ) → drop k (take n x) ≡ take (n - k) (drop k x)
+drop-take zero n x = let z : n ≡ n - 0 = omega arith in ap (λ (i : ℕ). take i x) z
+drop-take (suc k) zero x = go (drop (suc k) x)
+  where
+    go : (y : List ℕ) → [] ≡ take (0 - suc k) y
+    go y = let z : 0 ≡ 0 - suc k = omega arith in ap (λ (i : ℕ). take i y) z
+drop-take (suc k) (suc n) [] = go (suc n - suc k)
+  where
+    go : (i : ℕ) → _≡_ {A = List ℕ} [] (take i [])
+    go zero = refl
+    go (suc i) = refl
+drop-take (suc k) (suc n) (b ∷ x) = let z : n - k ≡ suc n - suc k = omega arith in drop-take k n x ∙ ap (λ (i : ℕ). take i (drop k x)) z
+
+-- The target of a `.. ` block, and of a `__ ` block.
+abbrev dots : List ℕ
+dots = 0x2E ∷ 0x2E ∷ 0x20 ∷ []
+
+abbrev strokes : List ℕ
+strokes = 0x5F ∷ 0x5F ∷ 0x20 ∷ []
+
+module _ (label : Bool) (s text : List ℕ) (n : ℕ) where
+  target-dots : blockOf dots s ≡ block text n → label2targetOf label s ≡ namedOf label text n
+  unfolding label2targetOf
+  target-dots e = simp (e, label2targetOf)
+
+  target-strokes : blockOf dots s ≡ no-block → blockOf strokes s ≡ block text n → label2targetOf label s ≡ anonymousOf label text n
+  unfolding label2targetOf
+  target-strokes e f = simp (e, f, label2targetOf)
+
+-- what begins with a stroke begins with no dot
+not-dots : (s : List ℕ) → startsWith strokes s ≡ true → startsWith dots s ≡ false
+unfolding startsWith
+not-dots [] e = refl
+not-dots (b ∷ s) e = go (eqb b 0x5F) refl (eqb b 0x2E) refl e
+  where
+    go : (x : Bool) → eqb b 0x5F ≡ x → (y : Bool) → eqb b 0x2E ≡ y → startsWith strokes (b ∷ s) ≡ true → startsWith dots (b ∷ s) ≡ false
+    go true f true g i = absurd (omega (arith, eqb-true b 0x5F f, eqb-true b 0x2E g))
+    go x f false g i = rw (g, startsWith) refl
+    go false f true g i = absurd (false≢true (sym (rw (f, startsWith) refl) ∙ i))
+
+-- A block's text t, and a place k of its first line at which a block with the same indent starts.
+module _ (a n : ℕ) (t s : List ℕ) (row : Row a n t s) (k : ℕ) (h : k ≤ n) where
+  abbrev line : List ℕ
+  line = drop (a + 3) s
+
+  long : n ≤ length line
+  long = not-line-ending-le line n (row .1)
+
+  same-rest : drop (a + 3) (drop k s) ≡ drop k line
+  same-rest =
+      let z : k + (a + 3) ≡ a + 3 + k = omega arith in
+      drop-drop (a + 3) k s ∙ ap (λ (i : ℕ). drop i s) z ∙ sym (drop-drop k (a + 3) s)
+
+  same-line : notLineEndingOf (drop (a + 3) (drop k s)) ≡ Taken (n - k)
+  same-line =
+      let z : 0 + (n - (0 + k)) ≡ n - k = omega arith in
+      ap (lineFrom 0) same-rest ∙ line-drop line 0 n k 0 (row .1) (omega arith) ∙ ap Taken z
+
+  same-text : take (n - k) (drop (a + 3) (drop k s)) ++ linesOf (take a s) 0 (drop (n - k) (drop (a + 3) (drop k s))) .text ≡ drop k t
+  same-text =
+      let z : k + (n - k) ≡ n = omega arith in
+      let more : drop (n - k) (drop (a + 3) (drop k s)) ≡ drop n line = ap (drop (n - k)) same-rest ∙ drop-drop (n - k) k line ∙ ap (λ (i : ℕ). drop i line) z in
+      ap (λ (l : List ℕ). take (n - k) (drop (a + 3) (drop k s)) ++ linesOf (take a s) 0 l .text) more
+      ∙ ap (λ (l : List ℕ). l ++ linesOf (take a s) 0 (drop n line) .text) (ap (take (n - k)) same-rest ∙ sym (drop-take k n line))
+      ∙ sym (drop-append-le k (take n line) (linesOf (take a s) 0 (drop n line) .text) (omega (arith, length-take-le n line long)))
+      ∙ ap (drop k) (sym (row .2))
+
+  module _ (header : List ℕ) (g : length header ≡ 3) (d : Headed header (take a s) (drop k s)) where
+    same-indent : a ≡ space0Of (drop k s)
+    same-indent =
+        omega (arith, ap length (d .0), length-take-le (space0Of (drop k s)) (drop k s) (space0-le (drop k s)), length-take-le a s (omega (arith, space0-le s, row .0)))
+
+    same-start : startOf header (drop k s) ≡ Taken (a + 3)
+    same-start =
+        start-taken (drop k s) a same-indent header (ap (startsWith header) (part-from (drop k s) a ∙ ap (λ (i : ℕ). drop i (drop k s)) same-indent) ∙ d .1)
+        ∙ ap (λ (i : ℕ). Taken (a + i)) g
+
+    same-block : blockOf header (drop k s) ≡ block (drop k t) (a + 3 + (n - k) + linesOf (take a s) 0 (drop (n - k) (drop (a + 3) (drop k s))) .read)
+    same-block =
+        block-taken header (drop k s) (a + 3) same-start (n - k) same-line
+        ∙ ap (λ (i : List ℕ). block (take (n - k) (drop (a + 3) (drop k s)) ++ linesOf i 0 (drop (n - k) (drop (a + 3) (drop k s))) .text) (a + 3 + (n - k) + linesOf i 0 (drop (n - k) (drop (a + 3) (drop k s))) .read)) (d .0)
+        ∙ ap (λ (l : List ℕ). block l (a + 3 + (n - k) + linesOf (take a s) 0 (drop (n - k) (drop (a + 3) (drop k s))) .read)) same-text
+
+  named-at : Headed dots (take a s) (drop k s) → Unnamed (drop k t) → NoTarget (drop k s)
+  named-at d f label = target-dots label (drop k s) (drop k t) _ (same-block dots refl d) ∙ f label _
+
+  anonymous-at : Headed strokes (take a s) (drop k s) → Dead (drop k t) → NoTarget (drop k s)
+  anonymous-at d f label =
+      target-strokes label (drop k s) (drop k t) _
+      (block-none dots (drop k s)
+      (start-refused (drop k s) (space0Of (drop k s)) refl dots (ap (startsWith dots) (part-from (drop k s) (space0Of (drop k s))) ∙ not-dots (drop (space0Of (drop k s)) (drop k s)) (d .1))))
+      (same-block strokes refl d)
+      ∙ anonymous-refuses (drop k t) _ _ (dead-refused (drop k t) f) label
+
+-- what begins a text is its front
+starts-take : (p s : List ℕ) → startsWith p s ≡ true → take (length p) s ≡ p
+unfolding startsWith
+starts-take [] s e = refl
+starts-take (c ∷ p) [] e = absurd (false≢true e)
+starts-take (c ∷ p) (b ∷ s) e = go (eqb b c) refl e (starts-take p s)
+  where
+    go : (x : Bool) → eqb b c ≡ x → elim x [ true ↦ startsWith p s | false ↦ false ] ≡ true → (startsWith p s ≡ true → take (length p) s ≡ p) → take (length (c ∷ p)) (b ∷ s) ≡ c ∷ p
+    go true f g ih = ap (λ (i : ℕ). i ∷ take (length p) s) (eqb-true b c f) ∙ ap (λ (l : List ℕ). c ∷ l) (ih g)
+    go false f g ih = absurd (false≢true g)
+
+-- A block with an indent and a header, by the code's tests.
+pub headed-is : (s indent header : List ℕ) (a : ℕ) → a ≡ space0Of s → a ≡ length indent → startsWith indent s ≡ true → startsWith header (from s a) ≡ true → Headed header indent s
+headed-is s indent header a i j e f =
+    (ap (λ (n : ℕ). take n s) (sym i ∙ j) ∙ starts-take indent s e, sym (ap (startsWith header) (part-from s a ∙ ap (λ (n : ℕ). drop n s) i)) ∙ f)
+
+-- The line is within the text, as its indent is.
+module _ (a n : ℕ) (t s : List ℕ) (row : Row a n t s) where
+  pub row-le : n ≤ length s
+  row-le = omega (arith, not-line-ending-le (drop (a + 3) s) n (row .1), length-drop (a + 3) s)
+
+  pub row-indent : a ≡ length (take a s)
+  row-indent = sym (length-take-le a s (omega (arith, space0-le s, row .0)))
+
+  -- at place k of it a block starts that gives no target
+  pub excluded-named : (k : ℕ) → k ≤ n → Headed dots (take a s) (from s k) → Unnamed (drop k t) → NoTarget (drop k s)
+  excluded-named k h d f = named-at a n t s row k h (subst (Headed dots (take a s)) (part-from s k) d) f
+
+  pub excluded-anonymous : (k : ℕ) → k ≤ n → Headed strokes (take a s) (from s k) → Dead (drop k t) → NoTarget (drop k s)
+  excluded-anonymous k h d f = anonymous-at a n t s row k h (subst (Headed strokes (take a s)) (part-from s k) d) f
+
+-- no target starts
+pub excluded-other : (s : List ℕ) (k : ℕ) → startsTarget (from s k) ≡ false → NoTarget (drop k s)
+excluded-other s k e label = no-target label (drop k s) (ap startsTarget (sym (part-from s k)) ∙ e)
+
+-- What is known of places.
+pub targetless-none : (s : List ℕ) (m n : ℕ) → n ≤ m → Targetless m n s
+targetless-none s m n h k l g = absurd (omega arith)
+
+module _ (s : List ℕ) (n : ℕ) (f : Targetless 0 n s) where
+  targetless-suc : (getD s n 0 ≡ 0x5F → NoTarget (drop (n + 1) s)) → Targetless 0 (n + 1) s
+  targetless-suc g k l h e =
+      ⊎-elim
+      (λ m. f k l m e)
+      (λ m.
+      let z : k ≡ n = omega arith in
+      subst⁻¹ (λ (i : ℕ). NoTarget (drop (i + 1) s)) z (g (ap (λ (i : ℕ). getD s i 0) (sym z) ∙ e)))
+      (lt-or-le k n)
+
+  -- another byte than _
+  pub targetless-other : (getD s n 0 ≡ 0x5F → ⊥) → Targetless 0 (n + 1) s
+  targetless-other g = targetless-suc (λ e. absurd (g e))
+
+  -- u is what stands behind the first byte
+  pub targetless-next : (u : List ℕ) → u ≡ drop 1 s → NoTarget (drop n u) → Targetless 0 (n + 1) s
+  targetless-next u i g =
+      let z : 1 + n ≡ n + 1 = omega arith in
+      targetless-suc (λ e. subst NoTarget (ap (drop n) i ∙ drop-drop n 1 s ∙ ap (λ (j : ℕ). drop j s) z) g)
+
+pub targetless-first : (s : List ℕ) → startsTarget (from s 1) ≡ false → Targetless 0 1 s
+targetless-first s e = targetless-next s 0 (targetless-none s 0 0 (omega arith)) (from s 1) (part-from s 1) (λ label. no-target label (from s 1) e)
+
+-- The text of a block that was read, with a header of three bytes, into d′.
+textIn : BlockText → List ℕ
+textIn (block text n) = text
+textIn no-block = []
+textIn no-scratch = []
+
+isBlock : BlockText → Bool
+isBlock (block text n) = true
+isBlock no-block = false
+isBlock no-scratch = false
+
+module _ (header s d d′ : List ℕ) (x : Block) (len m a n : ℕ) (i : a ≡ space0Of s) (h : length header ≡ 3) (e : notLineEndingOf (from s (a + 3)) ≡ Taken n) (f : blockIn x d′ ≡ lentBlock s d (blockOf header s)) (j : x ≡ Joined len m) where
+  lent-block : block (take len d′) m ≡ lentBlock s d (blockOf header s)
+  lent-block = sym (ap (λ (y : Block). blockIn y d′) j) ∙ f
+
+  read-block : block (take len d′) m ≡ blockOf header s
+  unfolding isBlock
+  read-block =
+      ⊎-elim
+      (λ l. absurd (true≢false (ap isBlock (lent-block ∙ lent-short header s d l))))
+      (λ l. lent-block ∙ lent-enough header s d l)
+      (lt-or-le (length d) (length s))
+
+  pub row-read : Row a n (take len d′) s
+  unfolding isBlock textIn
+  row-read = (i, line, go (startOf header s) refl)
+    where
+      line : notLineEndingOf (drop (a + 3) s) ≡ Taken n
+      line = ap (lineFrom 0) (sym (part-from s (a + 3))) ∙ e
+
+      go : (y : Part) → startOf header s ≡ y → take len d′ ≡ take n (drop (a + 3) s) ++ linesOf (take a s) 0 (drop n (drop (a + 3) s)) .text
+      go Refused g = absurd (true≢false (ap isBlock (read-block ∙ block-none header s g)))
+      go (Taken b) g =
+          let z : b ≡ a + 3 = omega (arith, start-is header s b g, i, h) in
+          ap textIn (read-block ∙ block-taken header s (a + 3) (g ∙ ap Taken z) n line)
+          ∙ ap (λ (k : ℕ). take n (drop (a + 3) s) ++ linesOf (take k s) 0 (drop n (drop (a + 3) s)) .text) (sym i)
+
+-- the header, as the code has it
+pub header-three : (s : List ℕ) (a : ℕ) → a + 3 ≤ length s → length (take (a + 3 - a) (drop a s)) ≡ 3
+header-three s a h =
+    let z : a + 3 - a ≡ 3 = omega arith in
+    ap (λ (n : ℕ). length (take n (drop a s))) z ∙ length-take-le 3 (drop a s) (omega (arith, length-drop a s))

@@ -1,0 +1,307 @@
+// Places behind which no target starts: for the caller of the parsers, who tries a target behind each link. Of two targets that start on
+// one line, with the same indent, the later one's text is the end of the earlier one's, since the line and the lines behind it end alike.
+// So what the text of the first one shows, read once, is known of those behind it too.
+use crate::block::Block;
+use crate::block::rst_explicit_markup_block;
+use crate::delimited::delimited;
+use crate::target::raw_target;
+use crate::target::starts_target;
+use crate::transform::is_destination_escapable;
+use rst_bytes::Part;
+use rst_bytes::escaped::is_escapable;
+use rst_bytes::line::not_line_ending;
+use rst_bytes::line::space0;
+use rst_bytes::tag::tag;
+ghost use mathlib.Core.Path.{_≡_};
+ghost use mathlib.Core.Bool.{true};
+ghost use Prim.Native.Nat.{_≤_, _<_};
+ghost use lib.ListN.{length, drop};
+ghost use Rattle.restructured_text.specs.Targetless.{NoTarget, Targetless, Unnamed, Nameless, Spaced, Misescaped, Dead, Row, Headed};
+
+// Whether no target starts at a place, and between which places no plain name begins in a block's text.
+pub struct Known {
+    pub free: bool,
+    pub from: usize,
+    pub to: usize,
+}
+
+// A place before which each place of a block's text at which a destination may begin begins one that is refused: behind the last escape
+// that a destination may not have.
+fn misescaped(t: &[u8]) -> usize
+    ensures { λ r. ⌜ Misescaped r (now (t .entry)) ⌝ }
+{
+    let mut i = 0;
+    let mut wrong = 0;
+    while i < t.len() {
+        let b = t[i];
+        if b == b'\\' {
+            let j = i + 1;
+            if t.len() <= j {
+                return j;
+            }
+            let e = t[j];
+            if is_destination_escapable(e) {
+                i = i + 2;
+            } else {
+                wrong = j;
+                i = j;
+            }
+        } else {
+            i = i + 1;
+        }
+    }
+    wrong
+}
+
+// Whether place i is the first one or behind a space.
+fn spaced(t: &[u8], i: usize) -> bool
+    ensures { λ r. ⌜ (r ≡ true → Spaced i (now (t .entry))) ⌝ }
+{
+    if i == 0 {
+        return true;
+    }
+    if t.len() < i {
+        return false;
+    }
+    let j = i - 1;
+    let b = t[j];
+    if b == b' ' {
+        return true;
+    }
+    false
+}
+
+// Whether the target that begins at place i of a block's text is refused.
+fn dead(t: &[u8], i: usize, wrong: usize) -> bool
+    requires { ⌜ Misescaped wrong (now t) ⌝ }
+    ensures { λ r. ⌜ (r ≡ true → Dead (drop i (now (t .entry)))) ⌝ }
+{
+    if t.len() < i {
+        return false;
+    }
+    let v = &t[i..];
+    let raw = raw_target(v);
+    if raw.alias {
+        let b = raw.start;
+        let e = b + raw.len;
+        return 0 < misescaped(&v[b..e]);
+    }
+    if i < wrong {
+        return spaced(t, i);
+    }
+    false
+}
+
+// A place before which each plain name that begins from `start` on runs to the same end, and is none, or has a target that is refused;
+// `start` where it is one.
+fn nameless(t: &[u8], start: usize, wrong: usize) -> usize
+    requires start { ⌜ start ≤ length (now t) ⌝ }
+    requires wrong { ⌜ Misescaped wrong (now t) ⌝ }
+    ensures { λ r. ⌜ Nameless start r (now (t .entry)) ⌝ }
+{
+    let mut i = start;
+    while i < t.len() {
+        let b = t[i];
+        if b == b'\\' {
+            let j = i + 1;
+            if t.len() <= j {
+                return i;
+            }
+            let e = t[j];
+            if is_escapable(e) {
+                i = i + 2;
+            } else {
+                return i;
+            }
+        } else {
+            if b == b':' {
+                if tag(&t[i..], b": ") {
+                    if dead(t, i + 2, wrong) {
+                        return i;
+                    }
+                    return start;
+                }
+                return i;
+            }
+            i = i + 1;
+        }
+    }
+    i
+}
+
+// What is known of plain names at place k of a block's text: what was known, or what the run from there on shows.
+fn renewed(t: &[u8], from: usize, to: usize, k: usize, wrong: usize) -> Known
+    requires place { ⌜ k ≤ length (now t) ⌝ }
+    requires wrong { ⌜ Misescaped wrong (now t) ⌝ }
+    requires none { ⌜ Nameless from to (now t) ⌝ }
+    ensures free { λ r. ⌜ (r .free ≡ true → (r .from ≤ k) × (k < r .to)) ⌝ }
+    ensures none { λ r. ⌜ Nameless (r .from) (r .to) (now (t .entry)) ⌝ }
+{
+    if from <= k {
+        if k < to {
+            return Known {
+                free: true,
+                from,
+                to,
+            };
+        }
+    }
+    let e = nameless(t, k, wrong);
+    Known {
+        free: k < e,
+        from: k,
+        to: e,
+    }
+}
+
+// Whether the text of a `.. ` block that stands from place k on in t gives no target: its name is in backticks, else plain.
+fn unnamed(t: &[u8], from: usize, to: usize, k: usize, wrong: usize) -> Known
+    requires wrong { ⌜ Misescaped wrong (now t) ⌝ }
+    requires none { ⌜ Nameless from to (now t) ⌝ }
+    ensures free { λ r. ⌜ (r .free ≡ true → Unnamed (drop k (now (t .entry)))) ⌝ }
+    ensures none { λ r. ⌜ Nameless (r .from) (r .to) (now (t .entry)) ⌝ }
+{
+    if t.len() <= k {
+        return Known {
+            free: false,
+            from,
+            to,
+        };
+    }
+    let b = t[k];
+    if b == b'_' {
+        let u = &t[k..];
+        match delimited(u, b"_`", b'`', b'`', b"`: ") {
+            Part::Taken(n) => Known {
+                free: dead(t, k + (n + 5), wrong),
+                from,
+                to,
+            },
+            Part::Refused => renewed(t, from, to, k, wrong),
+        }
+    } else {
+        Known {
+            free: false,
+            from,
+            to,
+        }
+    }
+}
+
+// Whether a block with this indent and this header starts.
+fn headed(s: &[u8], indent: &[u8], header: &[u8]) -> bool
+    ensures { λ r. ⌜ (r ≡ true → Headed (now (header .entry)) (now (indent .entry)) (now (s .entry))) ⌝ }
+{
+    let a = space0(s);
+    if a == indent.len() {
+        if tag(s, indent) {
+            return tag(&s[a..], header);
+        }
+    }
+    false
+}
+
+// Whether no target starts at place k of s: n bytes of it, behind the indent of a bytes and three more, are the line, and t is the text
+// of the block.
+fn excluded(
+    s: &[u8],
+    a: usize,
+    n: usize,
+    t: &[u8],
+    from: usize,
+    to: usize,
+    k: usize,
+    wrong: usize,
+) -> Known
+    requires row { ⌜ Row a n (now t) (now s) ⌝ }
+    requires place { ⌜ k ≤ n ⌝ }
+    requires wrong { ⌜ Misescaped wrong (now t) ⌝ }
+    requires none { ⌜ Nameless from to (now t) ⌝ }
+    ensures free { λ r. ⌜ (r .free ≡ true → NoTarget (drop k (now (s .entry)))) ⌝ }
+    ensures none { λ r. ⌜ Nameless (r .from) (r .to) (now (t .entry)) ⌝ }
+{
+    let c = &s[k..];
+    if starts_target(c) {
+        if headed(c, &s[..a], b".. ") {
+            return unnamed(t, from, to, k, wrong);
+        }
+        if headed(c, &s[..a], b"__ ") {
+            return Known {
+                free: dead(t, k, wrong),
+                from,
+                to,
+            };
+        }
+        return Known {
+            free: false,
+            from,
+            to,
+        };
+    }
+    Known {
+        free: true,
+        from,
+        to,
+    }
+}
+
+// How far no target starts directly behind a `_`, by what the text of the first block shows: it stands behind the first byte.
+fn passed(s: &[u8], a: usize, n: usize, t: &[u8]) -> usize
+    requires some { ⌜ 0 < length (now s) ⌝ }
+    requires row { ⌜ Row a n (now t) (drop 1 (now s)) ⌝ }
+    ensures within { λ r. ⌜ r ≤ length (now (s .entry)) ⌝ }
+    ensures none { λ r. ⌜ Targetless 0 r (now (s .entry)) ⌝ }
+{
+    let u = &s[1..];
+    let wrong = misescaped(t);
+    let mut k = 0;
+    let mut from = 0;
+    let mut to = 0;
+    while k < n {
+        let b = s[k];
+        if b == b'_' {
+            let known = excluded(u, a, n, t, from, to, k, wrong);
+            if known.free {
+                from = known.from;
+                to = known.to;
+                k = k + 1;
+            } else {
+                return k;
+            }
+        } else {
+            k = k + 1;
+        }
+    }
+    k
+}
+
+// A place before which no target starts directly behind a `_`, where s begins with one; 0 where nothing was learnt.
+pub fn targetless(s: &[u8], scratch: &mut [u8]) -> usize
+    ensures within { λ r. ⌜ r ≤ length (now (s .entry)) ⌝ }
+    ensures none { λ r. ⌜ Targetless 0 r (now (s .entry)) ⌝ }
+{
+    if s.len() == 0 {
+        return 0;
+    }
+    let u = &s[1..];
+    if starts_target(u) {
+        let a = space0(u);
+        if u.len() - a < 3 {
+            return 0;
+        }
+        let e = a + 3;
+        match not_line_ending(&u[e..]) {
+            Part::Taken(n) => match rst_explicit_markup_block(u, &u[a..e], scratch) {
+                Block::Joined(len, _) => {
+                    let v = &scratch[..];
+                    passed(s, a, n, &v[..len])
+                }
+                Block::NoBlock => 0,
+                Block::NoScratch => 0,
+            },
+            Part::Refused => 0,
+        }
+    } else {
+        1
+    }
+}
