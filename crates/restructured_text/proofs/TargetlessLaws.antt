@@ -1,42 +1,44 @@
 -- The laws of `specs/Targetless.antt`. From each `_` that a run passes a run goes on to the same end, since behind `_` no escape is open: so
 -- where that end makes no name, or one whose target is refused, none of them begins a target. Behind a space no escape is open either: so
--- a wrong escape refuses each destination that begins before it. A block that starts later on the same line with the same indent has the
--- end of the first one's text: the rest of the line and the same further lines.
+-- a wrong escape refuses each destination that begins before it. A block that starts later on the same line, with the same indent or where
+-- no further line stands behind it, has the end of the first one's text. On a line that is refused each block is refused.
 -- Assumes nothing.
 use Prim.Native.Nat.{ℕ, zero, suc, _+_, _-_, _<_, _≤_}
 use native.Mathlib.Omega.{arith}
 use mathlib.Core.Path.{_≡_, refl, sym, ap, subst, subst⁻¹, _∙_}
 use mathlib.Core.List.{List, [], _∷_, _++_}
-use mathlib.Core.Bool.{Bool, true, false, false≢true, true≢false}
+use mathlib.Core.Bool.{Bool, true, false, _&&_, false≢true, true≢false}
 use mathlib.Core.Logic.{_⊎_, inl, inr, ⊎-elim}
 use lib.Dec.{eqb}
 use lib.ListN.{length, getD, drop, take, length-drop}
-use lib.Seq.{drop-drop, getD-drop, length-take-le, drop-append-le}
+use lib.Seq.{drop-drop, length-take-le, drop-append-le}
 use borrow.Author.Tests.{eq-eqb, ne-eqb, eqb-true}
 use Rattle.rst_bytes.specs.Escaped.{isEscapable, isStop, taking, escapedOf}
-use Rattle.rst_bytes.specs.Line.{startsLf, lineFrom, notLineEndingOf, space0Of}
+use Rattle.rst_bytes.specs.Appending.{startsSpace}
+use Rattle.rst_bytes.specs.Line.{startsLf, lineFrom, lineEndingOf, notLineEndingOf, isSpace, space0Of}
 use Rattle.rst_bytes.specs.Tag.{startsWith}
 use Rattle.rst_bytes.specs.declared.Part.{Part}
 use Rattle.rst_bytes.specs.declared.Part.the-variants.{Taken, Refused}
 use Rattle.rst_bytes.proofs.Lists.{drop-next, drop-end, part-from}
 use Rattle.rst_bytes.proofs.TestLaws.{by-test, by-test₂, lt-or-le}
 use Rattle.rst_bytes.proofs.EscapedLaws.{refused-taken, taken-is, taken-from, at-end, at-plain, at-stop, at-alone, at-pair, at-wrong}
-use Rattle.rst_bytes.proofs.LineLaws.{not-line-ending-le, space0-le}
+use Rattle.rst_bytes.proofs.LineLaws.{not-line-ending-le, space0-le, space0-starts, line-plain}
+use Rattle.rst_bytes.proofs.TagLaws.{starts-append, starts-space}
 use Rattle.restructured_text.specs.declared.block.Block.{Block}
 use Rattle.restructured_text.specs.declared.block.Block.the-variants.{Joined}
 use Rattle.restructured_text.specs.declared.target.Raw.{Raw}
 use Rattle.restructured_text.specs.declared.transform.Transformed.the-variants.{Wrong}
-use Rattle.restructured_text.specs.Block.{startOf, linesOf, BlockText, block, no-block, no-scratch, blockOf, blockIn, lentBlock}
+use Rattle.restructured_text.specs.Block.{startOf, three, cutOf, Joining, linesOf, BlockText, block, no-block, no-scratch, blockOf, blockIn, lentBlock}
 use Rattle.restructured_text.specs.Delimited.{delimitedOf}
 use Rattle.restructured_text.specs.Strings.{none}
 use Rattle.restructured_text.specs.Target.{namedOf, anonymousOf, label2targetOf, startsTarget}
 use Rattle.restructured_text.specs.Definition.{rawOf}
 use Rattle.restructured_text.specs.Transform.{Given, whole, refused, onto, unescapedOf, isDestinationEscapable, unblank, keptOf, destinationOf, answerOf, bytesOf}
-use Rattle.restructured_text.specs.Targetless.{NoTarget, Targetless, Unnamed, Nameless, Spaced, Misescaped, Dead, Row, Headed}
+use Rattle.restructured_text.specs.Targetless.{NoTarget, Targetless, Unnamed, Nameless, Spaced, Misescaped, Dead, Row, Alone, Alike, Broken}
 use Rattle.restructured_text.proofs.DelimitedLaws.{delimited-refused, delimited-unclosed, delimited-taken}
 use Rattle.restructured_text.proofs.TransformLaws as TransformLaws
 use Rattle.restructured_text.proofs.TransformLaws.{answer-refused, at-two}
-use Rattle.restructured_text.proofs.BlockLaws.{from, start-is, start-taken, start-refused, block-none, block-taken, lent-short, lent-enough}
+use Rattle.restructured_text.proofs.BlockLaws.{from, cut-none, cut-other, cut-short, further-none, lines-end, start-is, start-taken, start-refused, block-none, block-no-line, block-taken, lent-short, lent-enough}
 use Rattle.restructured_text.proofs.TargetLaws.{quoted-within, plain-none, plain-named, name-plain, name-quoted, parse-none, named-none, named-refused, anonymous-refuses, raw-all, no-target}
 
 -- A colon stops, another byte does not.
@@ -265,7 +267,7 @@ module _ (v : List ℕ) (r : Raw) (i : r ≡ rawOf v) where
 -- A line from a later place on.
 abbrev Counted : ℕ → ℕ → Part → Part → Type 0
 Counted m j (Taken n) y = (m ≤ n) × (y ≡ Taken (j + (n - m)))
-Counted m j Refused y = Unit {0}
+Counted m j Refused y = y ≡ Refused
 
 counted : (l : List ℕ) (m j : ℕ) → Counted m j (lineFrom m l) (lineFrom j l)
 unfolding lineFrom
@@ -274,7 +276,7 @@ counted (b ∷ l) m j =
     by-test₂ (Counted m j) (eqb b 10) _ _ _ _
     (λ e. here)
     (λ e. by-test₂ (Counted m j) (eqb b 13) _ _ _ _
-    (λ f. by-test₂ (Counted m j) (startsLf l) _ _ _ _ (λ g. here) (λ g. tt))
+    (λ f. by-test₂ (Counted m j) (startsLf l) _ _ _ _ (λ g. here) (λ g. refl))
     (λ f. more (lineFrom (m + 1) l) _ (counted l (m + 1) (j + 1))))
   where
     here : Counted m j (Taken m) (Taken j)
@@ -284,7 +286,7 @@ counted (b ∷ l) m j =
     more (Taken n) y w =
         let z : j + 1 + (n - (m + 1)) ≡ j + (n - m) = omega (arith, w .0) in
         (omega (arith, w .0), w .1 ∙ ap Taken z)
-    more Refused y w = tt
+    more Refused y w = w
 
 line-drop : (x : List ℕ) (m n k j : ℕ) → lineFrom m x ≡ Taken n → m + k ≤ n → lineFrom j (drop k x) ≡ Taken (j + (n - (m + k)))
 unfolding lineFrom
@@ -345,59 +347,52 @@ not-dots (b ∷ s) e = go (eqb b 0x5F) refl (eqb b 0x2E) refl e
     go x f false g i = rw (g, startsWith) refl
     go false f true g i = absurd (false≢true (sym (rw (f, startsWith) refl) ∙ i))
 
--- A block's text t, and a place k of its first line at which a block with the same indent starts.
-module _ (a n : ℕ) (t s : List ℕ) (row : Row a n t s) (k : ℕ) (h : k ≤ n) where
+-- A block's text t, and c, which stands from a place k on: an indent of b bytes and a header, so that its text begins at place q of t, and
+-- the same further lines.
+module _ (a n : ℕ) (t s : List ℕ) (row : Row a n t s) (k : ℕ) (c : List ℕ) (ic : c ≡ drop k s) (b : ℕ) (ib : b ≡ space0Of c) (al : Alike a n c s) (q : ℕ) (iq : q + a ≡ k + b) (h : q ≤ n) where
   abbrev line : List ℕ
   line = drop (a + 3) s
 
   long : n ≤ length line
   long = not-line-ending-le line n (row .1)
 
-  same-rest : drop (a + 3) (drop k s) ≡ drop k line
+  same-rest : drop (b + 3) c ≡ drop q line
   same-rest =
-      let z : k + (a + 3) ≡ a + 3 + k = omega arith in
-      drop-drop (a + 3) k s ∙ ap (λ (i : ℕ). drop i s) z ∙ sym (drop-drop k (a + 3) s)
+      let z : k + (b + 3) ≡ a + 3 + q = omega arith in
+      ap (drop (b + 3)) ic ∙ drop-drop (b + 3) k s ∙ ap (λ (i : ℕ). drop i s) z ∙ sym (drop-drop q (a + 3) s)
 
-  same-line : notLineEndingOf (drop (a + 3) (drop k s)) ≡ Taken (n - k)
+  same-line : notLineEndingOf (drop (b + 3) c) ≡ Taken (n - q)
   same-line =
-      let z : 0 + (n - (0 + k)) ≡ n - k = omega arith in
-      ap (lineFrom 0) same-rest ∙ line-drop line 0 n k 0 (row .1) (omega arith) ∙ ap Taken z
+      let z : 0 + (n - (0 + q)) ≡ n - q = omega arith in
+      ap (lineFrom 0) same-rest ∙ line-drop line 0 n q 0 (row .1) (omega arith) ∙ ap Taken z
 
-  same-text : take (n - k) (drop (a + 3) (drop k s)) ++ linesOf (take a s) 0 (drop (n - k) (drop (a + 3) (drop k s))) .text ≡ drop k t
+  same-text : take (n - q) (drop (b + 3) c) ++ linesOf (take (space0Of c) c) 0 (drop (n - q) (drop (b + 3) c)) .text ≡ drop q t
   same-text =
-      let z : k + (n - k) ≡ n = omega arith in
-      let more : drop (n - k) (drop (a + 3) (drop k s)) ≡ drop n line = ap (drop (n - k)) same-rest ∙ drop-drop (n - k) k line ∙ ap (λ (i : ℕ). drop i line) z in
-      ap (λ (l : List ℕ). take (n - k) (drop (a + 3) (drop k s)) ++ linesOf (take a s) 0 l .text) more
-      ∙ ap (λ (l : List ℕ). l ++ linesOf (take a s) 0 (drop n line) .text) (ap (take (n - k)) same-rest ∙ sym (drop-take k n line))
-      ∙ sym (drop-append-le k (take n line) (linesOf (take a s) 0 (drop n line) .text) (omega (arith, length-take-le n line long)))
-      ∙ ap (drop k) (sym (row .2))
+      let z : q + (n - q) ≡ n = omega arith in
+      let more : drop (n - q) (drop (b + 3) c) ≡ drop n line = ap (drop (n - q)) same-rest ∙ drop-drop (n - q) q line ∙ ap (λ (i : ℕ). drop i line) z in
+      ap (λ (l : List ℕ). take (n - q) (drop (b + 3) c) ++ linesOf (take (space0Of c) c) 0 l .text) more
+      ∙ ap (λ (l : List ℕ). take (n - q) (drop (b + 3) c) ++ l) al
+      ∙ ap (λ (l : List ℕ). l ++ linesOf (take a s) 0 (drop n line) .text) (ap (take (n - q)) same-rest ∙ sym (drop-take q n line))
+      ∙ sym (drop-append-le q (take n line) (linesOf (take a s) 0 (drop n line) .text) (omega (arith, length-take-le n line long)))
+      ∙ ap (drop q) (sym (row .2))
 
-  module _ (header : List ℕ) (g : length header ≡ 3) (d : Headed header (take a s) (drop k s)) where
-    same-indent : a ≡ space0Of (drop k s)
-    same-indent =
-        omega (arith, ap length (d .0), length-take-le (space0Of (drop k s)) (drop k s) (space0-le (drop k s)), length-take-le a s (omega (arith, space0-le s, row .0)))
-
-    same-start : startOf header (drop k s) ≡ Taken (a + 3)
-    same-start =
-        start-taken (drop k s) a same-indent header (ap (startsWith header) (part-from (drop k s) a ∙ ap (λ (i : ℕ). drop i (drop k s)) same-indent) ∙ d .1)
-        ∙ ap (λ (i : ℕ). Taken (a + i)) g
-
-    same-block : blockOf header (drop k s) ≡ block (drop k t) (a + 3 + (n - k) + linesOf (take a s) 0 (drop (n - k) (drop (a + 3) (drop k s))) .read)
+  module _ (header : List ℕ) (g : length header ≡ 3) (d : startsWith header (from c b) ≡ true) where
+    same-block : blockOf header c ≡ block (drop q t) (b + 3 + (n - q) + linesOf (take (space0Of c) c) 0 (drop (n - q) (drop (b + 3) c)) .read)
     same-block =
-        block-taken header (drop k s) (a + 3) same-start (n - k) same-line
-        ∙ ap (λ (i : List ℕ). block (take (n - k) (drop (a + 3) (drop k s)) ++ linesOf i 0 (drop (n - k) (drop (a + 3) (drop k s))) .text) (a + 3 + (n - k) + linesOf i 0 (drop (n - k) (drop (a + 3) (drop k s))) .read)) (d .0)
-        ∙ ap (λ (l : List ℕ). block l (a + 3 + (n - k) + linesOf (take a s) 0 (drop (n - k) (drop (a + 3) (drop k s))) .read)) same-text
+        block-taken header c (b + 3) (start-taken c b ib header d ∙ ap (λ (i : ℕ). Taken (b + i)) g) (n - q) same-line
+        ∙ ap (λ (l : List ℕ). block l (b + 3 + (n - q) + linesOf (take (space0Of c) c) 0 (drop (n - q) (drop (b + 3) c)) .read)) same-text
 
-  named-at : Headed dots (take a s) (drop k s) → Unnamed (drop k t) → NoTarget (drop k s)
-  named-at d f label = target-dots label (drop k s) (drop k t) _ (same-block dots refl d) ∙ f label _
+  pub named-at : startsWith dots (from c b) ≡ true → Unnamed (drop q t) → NoTarget (drop k s)
+  named-at d f = subst NoTarget ic (λ label. target-dots label c (drop q t) _ (same-block dots refl d) ∙ f label _)
 
-  anonymous-at : Headed strokes (take a s) (drop k s) → Dead (drop k t) → NoTarget (drop k s)
-  anonymous-at d f label =
-      target-strokes label (drop k s) (drop k t) _
-      (block-none dots (drop k s)
-      (start-refused (drop k s) (space0Of (drop k s)) refl dots (ap (startsWith dots) (part-from (drop k s) (space0Of (drop k s))) ∙ not-dots (drop (space0Of (drop k s)) (drop k s)) (d .1))))
+  pub anonymous-at : startsWith strokes (from c b) ≡ true → Dead (drop q t) → NoTarget (drop k s)
+  anonymous-at d f =
+      subst NoTarget ic
+      (λ label.
+      target-strokes label c (drop q t) _
+      (block-none dots c (start-refused c b ib dots (not-dots (from c b) d)))
       (same-block strokes refl d)
-      ∙ anonymous-refuses (drop k t) _ _ (dead-refused (drop k t) f) label
+      ∙ anonymous-refuses (drop q t) _ _ (dead-refused (drop q t) f) label)
 
 -- what begins a text is its front
 starts-take : (p s : List ℕ) → startsWith p s ≡ true → take (length p) s ≡ p
@@ -410,25 +405,56 @@ starts-take (c ∷ p) (b ∷ s) e = go (eqb b c) refl e (starts-take p s)
     go true f g ih = ap (λ (i : ℕ). i ∷ take (length p) s) (eqb-true b c f) ∙ ap (λ (l : List ℕ). c ∷ l) (ih g)
     go false f g ih = absurd (false≢true g)
 
--- A block with an indent and a header, by the code's tests.
-pub headed-is : (s indent header : List ℕ) (a : ℕ) → a ≡ space0Of s → a ≡ length indent → startsWith indent s ≡ true → startsWith header (from s a) ≡ true → Headed header indent s
-headed-is s indent header a i j e f =
-    (ap (λ (n : ℕ). take n s) (sym i ∙ j) ∙ starts-take indent s e, sym (ap (startsWith header) (part-from s a ∙ ap (λ (n : ℕ). drop n s) i)) ∙ f)
+-- The same further lines, by the code's tests: none, or those of the same indent.
+module _ (a n : ℕ) (c s : List ℕ) (i : a ≡ space0Of s) where
+  pub alike-alone : Alone (drop n (drop (a + 3) s)) → Alike a n c s
+  alike-alone f = f c ∙ sym (ap (λ (k : ℕ). linesOf (take k s) 0 (drop n (drop (a + 3) s)) .text) i ∙ f s)
 
--- The line is within the text, as its indent is.
+  pub alike-same : space0Of c ≡ a → startsWith (take a s) c ≡ true → Alike a n c s
+  alike-same j e =
+      let l : length (take a s) ≡ a = length-take-le a s (omega (arith, space0-le s)) in
+      ap (λ (p : List ℕ). linesOf p 0 (drop n (drop (a + 3) s)) .text) (ap (λ (k : ℕ). take k c) (j ∙ sym l) ∙ starts-take (take a s) c e)
+
+-- no line ends here
+module _ (s : List ℕ) where
+  pub alone-end : lineEndingOf s ≡ Refused → Alone s
+  alone-end e x = ap (λ (j : Joining). j .text) (lines-end _ s (further-none _ s (cut-none _ s e)))
+
+  -- the next line begins with no space
+  pub alone-next : (k : ℕ) → lineEndingOf s ≡ Taken k → startsSpace (from s k) ≡ false → Alone s
+  unfolding startsSpace isSpace
+  alone-next k e f x = ap (λ (j : Joining). j .text) (lines-end _ s (further-none _ s (none (startsWith (take (space0Of x) x) (from s k)) refl)))
+    where
+      space : (p : List ℕ) → startsSpace p ≡ true → startsWith p (from s k) ≡ true → ⊥
+      space p g h = true≢false (sym (starts-space p (from s k) g h) ∙ f)
+
+      both : startsWith (take (space0Of x) x) (from s k) ≡ true → (y : Bool) → startsWith three (from (from s k) (length (take (space0Of x) x))) ≡ y → cutOf (take (space0Of x) x) s ≡ Refused
+      both g true h =
+          absurd (space (take (space0Of x) x ++ three) (space0-starts x three refl)
+          (starts-append (take (space0Of x) x) three (from s k)
+          ∙ ap (λ (b : Bool). b && startsWith three (drop (length (take (space0Of x) x)) (from s k))) g
+          ∙ ap (startsWith three) (sym (part-from (from s k) (length (take (space0Of x) x)))) ∙ h))
+      both g false h = cut-short (take (space0Of x) x) s k e g h
+
+      none : (y : Bool) → startsWith (take (space0Of x) x) (from s k) ≡ y → cutOf (take (space0Of x) x) s ≡ Refused
+      none true g = both g _ refl
+      none false g = cut-other (take (space0Of x) x) s k e g
+
+-- by its first byte
+pub space-none : (s : List ℕ) → length s ≡ 0 → startsSpace s ≡ false
+unfolding startsSpace
+space-none [] h = refl
+space-none (b ∷ s) h = absurd (omega arith)
+
+pub space-first : (s : List ℕ) → 0 < length s → isSpace (getD s 0 0) ≡ false → startsSpace s ≡ false
+unfolding startsSpace
+space-first [] h e = refl
+space-first (b ∷ s) h e = e
+
+-- The line is within the text.
 module _ (a n : ℕ) (t s : List ℕ) (row : Row a n t s) where
   pub row-le : n ≤ length s
   row-le = omega (arith, not-line-ending-le (drop (a + 3) s) n (row .1), length-drop (a + 3) s)
-
-  pub row-indent : a ≡ length (take a s)
-  row-indent = sym (length-take-le a s (omega (arith, space0-le s, row .0)))
-
-  -- at place k of it a block starts that gives no target
-  pub excluded-named : (k : ℕ) → k ≤ n → Headed dots (take a s) (from s k) → Unnamed (drop k t) → NoTarget (drop k s)
-  excluded-named k h d f = named-at a n t s row k h (subst (Headed dots (take a s)) (part-from s k) d) f
-
-  pub excluded-anonymous : (k : ℕ) → k ≤ n → Headed strokes (take a s) (from s k) → Dead (drop k t) → NoTarget (drop k s)
-  excluded-anonymous k h d f = anonymous-at a n t s row k h (subst (Headed strokes (take a s)) (part-from s k) d) f
 
 -- no target starts
 pub excluded-other : (s : List ℕ) (k : ℕ) → startsTarget (from s k) ≡ false → NoTarget (drop k s)
@@ -451,6 +477,10 @@ module _ (s : List ℕ) (n : ℕ) (f : Targetless 0 n s) where
   -- another byte than _
   pub targetless-other : (getD s n 0 ≡ 0x5F → ⊥) → Targetless 0 (n + 1) s
   targetless-other g = targetless-suc (λ e. absurd (g e))
+
+  -- u is what stands behind that place
+  pub targetless-behind : (u : List ℕ) → u ≡ drop (n + 1) s → NoTarget u → Targetless 0 (n + 1) s
+  targetless-behind u i g = targetless-suc (λ e. subst NoTarget i g)
 
   -- u is what stands behind the first byte
   pub targetless-next : (u : List ℕ) → u ≡ drop 1 s → NoTarget (drop n u) → Targetless 0 (n + 1) s
@@ -503,3 +533,49 @@ pub header-three : (s : List ℕ) (a : ℕ) → a + 3 ≤ length s → length (t
 header-three s a h =
     let z : a + 3 - a ≡ 3 = omega arith in
     ap (λ (n : ℕ). length (take n (drop a s))) z ∙ length-take-le 3 (drop a s) (omega (arith, length-drop a s))
+
+-- A line that is refused.
+
+-- counted from another place it is refused too
+refused-count : (m j : ℕ) (l : List ℕ) → lineFrom m l ≡ Refused → lineFrom j l ≡ Refused
+refused-count m j l e = subst (λ (r : Part). Counted m j r (lineFrom j l)) e (counted l m j)
+
+pub broken-none : (s : List ℕ) → Broken 0 s
+broken-none s k h = absurd (omega arith)
+
+-- so is what stands from a place on before which it does not end
+pub broken-next : (s : List ℕ) (i : ℕ) → Broken i s → (i < length s → lineFrom i (drop i s) ≡ Refused) → i < length s → Broken (i + 1) s
+broken-next s i f g h k l =
+    ⊎-elim
+    (λ m. f k m)
+    (λ m.
+    let z : i ≡ k = omega arith in
+    refused-count i 0 (drop k s) (subst (λ (j : ℕ). lineFrom i (drop j s) ≡ Refused) z (g h)))
+    (lt-or-le k i)
+
+pub broken-plain : (s : List ℕ) (i : ℕ) → lineFrom i (drop i s) ≡ Refused → i < length s → (getD s i 0 ≡ 10 → ⊥) → (getD s i 0 ≡ 13 → ⊥) → lineFrom (i + 1) (drop (i + 1) s) ≡ Refused
+broken-plain s i e h f g = sym (line-plain s i f h g) ∙ e
+
+-- the lines from a later place on
+pub broken-behind : (s u : List ℕ) (m j : ℕ) → u ≡ drop j s → Broken m s → Broken (m - j) u
+broken-behind s u m j i f k h = ap (λ (l : List ℕ). notLineEndingOf (drop k l)) i ∙ ap (lineFrom 0) (drop-drop k j s) ∙ f (j + k) (omega arith)
+
+-- no block starts there
+module _ (s : List ℕ) (m : ℕ) (f : Broken m s) (h : space0Of s < m - 3) where
+  broken-block : (header : List ℕ) → length header ≡ 3 → blockOf header s ≡ no-block
+  broken-block header g = go (startOf header s) refl
+    where
+      go : (x : Part) → startOf header s ≡ x → blockOf header s ≡ no-block
+      go (Taken b) e =
+          let z = start-is header s b e in
+          block-no-line header s b e (f b (omega (arith, z, g, h)))
+      go Refused e = block-none header s e
+
+  pub broken-target : NoTarget s
+  unfolding label2targetOf
+  broken-target label = simp (broken-block dots refl, broken-block strokes refl, label2targetOf)
+
+-- what stands from the line's end on, as the code has it
+pub alone-from : (s : List ℕ) (a n : ℕ) → Alone (from (from (from s 1) (a + 3)) n) → Alone (drop n (drop (a + 3) (drop 1 s)))
+alone-from s a n f =
+    subst Alone (part-from (from (from s 1) (a + 3)) n ∙ ap (drop n) (part-from (from s 1) (a + 3) ∙ ap (drop (a + 3)) (part-from s 1))) f

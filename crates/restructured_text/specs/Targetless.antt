@@ -8,7 +8,6 @@ use mathlib.Core.Bool.{Bool, true}
 use mathlib.Core.Logic.{_⊎_}
 use lib.ListN.{length, getD, drop, take}
 use Rattle.rst_bytes.specs.Line.{notLineEndingOf, space0Of}
-use Rattle.rst_bytes.specs.Tag.{startsWith}
 use Rattle.rst_bytes.specs.declared.Part.the-variants.{Taken, Refused}
 use Rattle.restructured_text.specs.declared.transform.Transformed.the-variants.{Wrong}
 use Rattle.restructured_text.specs.Delimited.{delimitedOf}
@@ -55,6 +54,15 @@ Row a n t s =
     (a ≡ space0Of s) × (notLineEndingOf (drop (a + 3) s) ≡ Taken n)
     × (t ≡ take n (drop (a + 3) s) ++ linesOf (take a s) 0 (drop n (drop (a + 3) s)) .text)
 
--- a block with that indent and that header starts
-abbrev pub Headed : List ℕ → List ℕ → List ℕ → Type 0
-Headed header indent s = (take (space0Of s) s ≡ indent) × (startsWith header (drop (space0Of s) s) ≡ true)
+-- no further line stands behind a line, whatever the indent: s is what stands from the line's end on
+abbrev pub Alone : List ℕ → Type 0
+Alone s = (x : List ℕ) → linesOf (take (space0Of x) x) 0 s .text ≡ []
+
+-- the further lines of that block are those of a block that starts with c and ends its line there
+abbrev pub Alike : ℕ → ℕ → List ℕ → List ℕ → Type 0
+Alike a n c s =
+    linesOf (take (space0Of c) c) 0 (drop n (drop (a + 3) s)) .text ≡ linesOf (take a s) 0 (drop n (drop (a + 3) s)) .text
+
+-- each line that starts before place n has a CR without LF
+abbrev pub Broken : ℕ → List ℕ → Type 0
+Broken n s = (k : ℕ) → k < n → notLineEndingOf (drop k s) ≡ Refused

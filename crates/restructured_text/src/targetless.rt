@@ -1,6 +1,6 @@
 // Places behind which no target starts: for the caller of the parsers, who tries a target behind each link. Of two targets that start on
-// one line, with the same indent, the later one's text is the end of the earlier one's, since the line and the lines behind it end alike.
-// So what the text of the first one shows, read once, is known of those behind it too.
+// one line, with the same indent or with no further lines, the later one's text is the end of the earlier one's, since the line and the
+// lines behind it end alike. So what the text of the first one shows, read once, is known of those behind it too.
 use crate::block::Block;
 use crate::block::rst_explicit_markup_block;
 use crate::delimited::delimited;
@@ -9,14 +9,17 @@ use crate::target::starts_target;
 use crate::transform::is_destination_escapable;
 use rst_bytes::Part;
 use rst_bytes::escaped::is_escapable;
+use rst_bytes::line::is_space;
+use rst_bytes::line::line_ending;
 use rst_bytes::line::not_line_ending;
 use rst_bytes::line::space0;
 use rst_bytes::tag::tag;
 ghost use mathlib.Core.Path.{_≡_};
 ghost use mathlib.Core.Bool.{true};
-ghost use Prim.Native.Nat.{_≤_, _<_};
+ghost use Prim.Native.Nat.{_+_, _≤_, _<_};
+ghost use Rattle.rst_bytes.specs.Line.{space0Of};
 ghost use lib.ListN.{length, drop};
-ghost use Rattle.restructured_text.specs.Targetless.{NoTarget, Targetless, Unnamed, Nameless, Spaced, Misescaped, Dead, Row, Headed};
+ghost use Rattle.restructured_text.specs.Targetless.{NoTarget, Targetless, Unnamed, Nameless, Spaced, Misescaped, Dead, Row, Alone, Alike, Broken};
 
 // Whether no target starts at a place, and between which places no plain name begins in a block's text.
 pub struct Known {
@@ -188,15 +191,37 @@ fn unnamed(t: &[u8], from: usize, to: usize, k: usize, wrong: usize) -> Known
     }
 }
 
-// Whether a block with this indent and this header starts.
-fn headed(s: &[u8], indent: &[u8], header: &[u8]) -> bool
-    ensures { λ r. ⌜ (r ≡ true → Headed (now (header .entry)) (now (indent .entry)) (now (s .entry))) ⌝ }
+// Whether no further line stands behind a line, whatever the indent: s is what stands from the line's end on.
+fn alone(s: &[u8]) -> bool
+    ensures { λ r. ⌜ (r ≡ true → Alone (now (s .entry))) ⌝ }
 {
-    let a = space0(s);
-    if a == indent.len() {
-        if tag(s, indent) {
-            return tag(&s[a..], header);
+    match line_ending(s) {
+        Part::Taken(k) => {
+            let t = &s[k..];
+            if t.len() == 0 {
+                return true;
+            }
+            let b = t[0];
+            if is_space(b) {
+                return false;
+            }
+            true
         }
+        Part::Refused => true,
+    }
+}
+
+// Whether the further lines of a block that starts with c are those of the one that starts with s: there is none, or the indent is the same.
+fn alike(s: &[u8], a: usize, n: usize, c: &[u8], lone: bool) -> bool
+    requires indent { ⌜ a ≡ space0Of (now s) ⌝ }
+    requires lone { ⌜ (lone ≡ true → Alone (drop n (drop (a + 3) (now s)))) ⌝ }
+    ensures { λ r. ⌜ (r ≡ true → Alike a n (now (c .entry)) (now (s .entry))) ⌝ }
+{
+    if lone {
+        return true;
+    }
+    if space0(c) == a {
+        return tag(c, &s[..a]);
     }
     false
 }
@@ -208,12 +233,14 @@ fn excluded(
     a: usize,
     n: usize,
     t: &[u8],
+    lone: bool,
     from: usize,
     to: usize,
     k: usize,
     wrong: usize,
 ) -> Known
     requires row { ⌜ Row a n (now t) (now s) ⌝ }
+    requires lone { ⌜ (lone ≡ true → Alone (drop n (drop (a + 3) (now s)))) ⌝ }
     requires place { ⌜ k ≤ n ⌝ }
     requires wrong { ⌜ Misescaped wrong (now t) ⌝ }
     requires none { ⌜ Nameless from to (now t) ⌝ }
@@ -222,21 +249,34 @@ fn excluded(
 {
     let c = &s[k..];
     if starts_target(c) {
-        if headed(c, &s[..a], b".. ") {
-            return unnamed(t, from, to, k, wrong);
-        }
-        if headed(c, &s[..a], b"__ ") {
-            return Known {
-                free: dead(t, k, wrong),
-                from,
-                to,
-            };
-        }
-        return Known {
+        let known = Known {
             free: false,
             from,
             to,
         };
+        if alike(s, a, n, c, lone) {
+            let b = space0(c);
+            if k + b < a {
+                return known;
+            }
+            let q = k + b - a;
+            if n < q {
+                return known;
+            }
+            let v = &c[b..];
+            if tag(v, b".. ") {
+                return unnamed(t, from, to, q, wrong);
+            }
+            if tag(v, b"__ ") {
+                return Known {
+                    free: dead(t, q, wrong),
+                    from,
+                    to,
+                };
+            }
+            return known;
+        }
+        return known;
     }
     Known {
         free: true,
@@ -246,9 +286,10 @@ fn excluded(
 }
 
 // How far no target starts directly behind a `_`, by what the text of the first block shows: it stands behind the first byte.
-fn passed(s: &[u8], a: usize, n: usize, t: &[u8]) -> usize
+fn passed(s: &[u8], a: usize, n: usize, t: &[u8], lone: bool) -> usize
     requires some { ⌜ 0 < length (now s) ⌝ }
     requires row { ⌜ Row a n (now t) (drop 1 (now s)) ⌝ }
+    requires lone { ⌜ (lone ≡ true → Alone (drop n (drop (a + 3) (drop 1 (now s))))) ⌝ }
     ensures within { λ r. ⌜ r ≤ length (now (s .entry)) ⌝ }
     ensures none { λ r. ⌜ Targetless 0 r (now (s .entry)) ⌝ }
 {
@@ -260,11 +301,70 @@ fn passed(s: &[u8], a: usize, n: usize, t: &[u8]) -> usize
     while k < n {
         let b = s[k];
         if b == b'_' {
-            let known = excluded(u, a, n, t, from, to, k, wrong);
+            let known = excluded(u, a, n, t, lone, from, to, k, wrong);
             if known.free {
                 from = known.from;
                 to = known.to;
                 k = k + 1;
+            } else {
+                return k;
+            }
+        } else {
+            k = k + 1;
+        }
+    }
+    k
+}
+
+// A place of a line that is refused, by a CR without LF: each line that starts before it is refused too.
+fn broken(s: &[u8]) -> usize
+    ensures within { λ r. ⌜ r ≤ length (now (s .entry)) ⌝ }
+    ensures refused { λ r. ⌜ Broken r (now (s .entry)) ⌝ }
+{
+    if let Part::Taken(_) = not_line_ending(s) {
+        return 0;
+    }
+    let mut i = 0;
+    while i < s.len() {
+        let b = s[i];
+        if b == 10 {
+            return i;
+        }
+        if b == 13 {
+            return i;
+        }
+        i = i + 1;
+    }
+    i
+}
+
+// Whether no target starts, where each line that starts before place m is refused.
+fn refuses(s: &[u8], m: usize) -> bool
+    requires { ⌜ Broken m (now s) ⌝ }
+    ensures { λ r. ⌜ (r ≡ true → NoTarget (now (s .entry))) ⌝ }
+{
+    if starts_target(s) {
+        if m <= 3 {
+            return false;
+        }
+        return space0(s) < m - 3;
+    }
+    true
+}
+
+// How far no target starts directly behind a `_` on a line that is refused.
+fn refused_line(s: &[u8]) -> usize
+    ensures within { λ r. ⌜ r ≤ length (now (s .entry)) ⌝ }
+    ensures none { λ r. ⌜ Targetless 0 r (now (s .entry)) ⌝ }
+{
+    let m = broken(s);
+    let mut k = 0;
+    while k < m {
+        let b = s[k];
+        if b == b'_' {
+            let j = k + 1;
+            if refuses(&s[j..], m - j) {
+                k = j;
             } else {
                 return k;
             }
@@ -290,16 +390,20 @@ pub fn targetless(s: &[u8], scratch: &mut [u8]) -> usize
             return 0;
         }
         let e = a + 3;
-        match not_line_ending(&u[e..]) {
-            Part::Taken(n) => match rst_explicit_markup_block(u, &u[a..e], scratch) {
-                Block::Joined(len, _) => {
-                    let v = &scratch[..];
-                    passed(s, a, n, &v[..len])
+        let line = &u[e..];
+        match not_line_ending(line) {
+            Part::Taken(n) => {
+                let lone = alone(&line[n..]);
+                match rst_explicit_markup_block(u, &u[a..e], scratch) {
+                    Block::Joined(len, _) => {
+                        let v = &scratch[..];
+                        passed(s, a, n, &v[..len], lone)
+                    }
+                    Block::NoBlock => 0,
+                    Block::NoScratch => 0,
                 }
-                Block::NoBlock => 0,
-                Block::NoScratch => 0,
-            },
-            Part::Refused => 0,
+            }
+            Part::Refused => refused_line(s),
         }
     } else {
         1

@@ -2,16 +2,17 @@
 -- block there, as `passed` asks.
 -- Assumes nothing.
 use Prim.Native.Nat.{_+_, _≤_}
-use mathlib.Core.Path.{_≡_, sym, subst, _∙_}
+use mathlib.Core.Path.{sym, subst, _∙_}
 use native.Mathlib.Omega.{arith}
 use lib.ListN.{length}
 use lib.Seq.{length-take-le}
 use borrow.Author.Needs.{needs}
+use Rattle.rst_bytes.proofs.LineLaws.{not-line-ending-le}
 use Rattle.rst_bytes.proofs.Lists.{part-from}
 use Rattle.restructured_text.specs.Targetless.{Row}
 use Rattle.restructured_text.proofs.BlockLaws.{from, indent-le}
 use Rattle.restructured_text.proofs.TargetLaws.{block-room}
-use Rattle.restructured_text.proofs.TargetlessLaws.{targetless-none, targetless-first, header-three, row-read}
+use Rattle.restructured_text.proofs.TargetlessLaws.{targetless-none, targetless-first, header-three, row-read, alone-from}
 use Rattle.restructured_text.proofs.targetless.targetless.Statement.{statement}
 use Rattle.restructured_text.proofs.targetless.targetless.Tie as tie
 
@@ -42,20 +43,32 @@ returns-2 c = (omega arith, targetless-none _ 0 0 (omega arith))
 add-e : tie.Need-add-e
 add-e c = search needs
 
-sub-not-line-ending : tie.Need-sub-not-line-ending
-sub-not-line-ending c = search needs
+sub-line : tie.Need-sub-line
+sub-line c = search needs
 
-part-not-line-ending-start : tie.Need-part-not-line-ending-start
-part-not-line-ending-start c = search needs
+part-line-start : tie.Need-part-line-start
+part-line-start c = search needs
 
-part-not-line-ending-end : tie.Need-part-not-line-ending-end
-part-not-line-ending-end c = search needs
+part-line-end : tie.Need-part-line-end
+part-line-end c = search needs
 
 not-line-ending-requires : tie.Need-not-line-ending-requires
 not-line-ending-requires c κs = search needs
 
 enum-known-n : tie.Need-enum-known-n
 enum-known-n c = search needs
+
+sub-alone : tie.Need-sub-alone
+sub-alone c = not-line-ending-le _ _ (sym (c .before .before .before .not-line-ending .ensures) ∙ c .before .n .given .1)
+
+part-alone-start : tie.Need-part-alone-start
+part-alone-start c = not-line-ending-le _ _ (sym (c .before .before .before .not-line-ending .ensures) ∙ c .before .n .given .1)
+
+part-alone-end : tie.Need-part-alone-end
+part-alone-end c = search needs
+
+alone-requires : tie.Need-alone-requires
+alone-requires c κs = search needs
 
 sub-rst-explicit-markup-block : tie.Need-sub-rst-explicit-markup-block
 sub-rst-explicit-markup-block c = search needs
@@ -74,16 +87,22 @@ enum-known-len c = search needs
 
 slice-aggregate-passed : tie.Need-slice-aggregate-passed
 slice-aggregate-passed c =
-    let s = c .before .before .before .before .before .before .before .before .before .before .before .before .before .before .before .before .before .before .before .before .before .before .before .args .s .now in
-    let l : c .before .before .before .before .before .before .before .before .before .before .before .before .before .before .before .before .space0 .result + 3 ≤ length (from s 1) = omega (arith, indent-le _ _ (c .before .before .before .before .before .before .before .before .before .before .before .before .before .before .before .before .space0 .ensures)) in
-    let w = block-room _ (from s 1) (c .before .before .before .before .before .before .before .before .before .before .before .before .before .before .before .before .before .before .before .before .before .before .before .args .scratch .now) _ _ _ _ (c .before .before .before .before .before .before .scratch .given) (c .before .before .before .before .before .before .before .rst-explicit-markup-block .ensures) (c .before .before .before .len .given .1) (omega (arith, header-three (from s 1) (c .before .before .before .before .before .before .before .before .before .before .before .before .before .before .before .before .space0 .result) l)) in
+    let s = c .before .before .before .before .before .before .before .before .before .before .before .before .before .before .before .before .before .before .before .before .before .before .before .before .before .args .s .now in
+    let l : c .before .before .before .before .before .before .before .before .before .before .before .before .before .before .before .before .before .before .space0 .result + 3 ≤ length (from s 1) = omega (arith, indent-le _ _ (c .before .before .before .before .before .before .before .before .before .before .before .before .before .before .before .before .before .before .space0 .ensures)) in
+    let w = block-room _ (from s 1) (c .before .before .before .before .before .before .before .before .before .before .before .before .before .before .before .before .before .before .before .before .before .before .before .before .before .args .scratch .now) _ _ _ _ (c .before .before .before .before .before .before .scratch .given) (c .before .before .before .before .before .before .before .rst-explicit-markup-block .ensures) (c .before .before .before .len .given .1) (omega (arith, header-three (from s 1) (c .before .before .before .before .before .before .before .before .before .before .before .before .before .before .before .before .before .before .space0 .result) l)) in
     sym (length-take-le _ _ (omega (arith, w .0, w .1)))
 
 passed-requires : tie.Need-passed-requires
 passed-requires c κs =
-    let s = c .before .before .before .before .before .before .before .before .before .before .before .before .before .before .before .before .before .before .before .before .before .before .before .args .s .now in
-    let l : c .before .before .before .before .before .before .before .before .before .before .before .before .before .before .before .before .space0 .result + 3 ≤ length (from s 1) = omega (arith, indent-le _ _ (c .before .before .before .before .before .before .before .before .before .before .before .before .before .before .before .before .space0 .ensures)) in
-    (omega arith, subst (Row _ _ _) (part-from s 1) (row-read _ (from s 1) (c .before .before .before .before .before .before .before .before .before .before .before .before .before .before .before .before .before .before .before .before .before .before .before .args .scratch .now) _ _ _ _ _ _ (c .before .before .before .before .before .before .before .before .before .before .before .before .before .before .before .before .space0 .ensures) (header-three (from s 1) (c .before .before .before .before .before .before .before .before .before .before .before .before .before .before .before .before .space0 .result) l) (sym (c .before .before .before .before .before .before .before .before .before .before .before .before .before .not-line-ending .ensures) ∙ c .before .before .before .before .before .before .before .before .before .before .before .n .given .1) (c .before .before .before .before .before .before .before .rst-explicit-markup-block .ensures) (c .before .before .before .len .given .1)))
+    let s = c .before .before .before .before .before .before .before .before .before .before .before .before .before .before .before .before .before .before .before .before .before .before .before .before .before .args .s .now in
+    let a = c .before .before .before .before .before .before .before .before .before .before .before .before .before .before .before .before .before .before .space0 .result in
+    let l : a + 3 ≤ length (from s 1) = omega (arith, indent-le _ _ (c .before .before .before .before .before .before .before .before .before .before .before .before .before .before .before .before .before .before .space0 .ensures)) in (
+      omega arith,
+      (
+        subst (Row _ _ _) (part-from s 1) (row-read _ (from s 1) (c .before .before .before .before .before .before .before .before .before .before .before .before .before .before .before .before .before .before .before .before .before .before .before .before .before .args .scratch .now) _ _ _ _ _ _ (c .before .before .before .before .before .before .before .before .before .before .before .before .before .before .before .before .before .before .space0 .ensures) (header-three (from s 1) a l) (sym (c .before .before .before .before .before .before .before .before .before .before .before .before .before .before .before .not-line-ending .ensures) ∙ c .before .before .before .before .before .before .before .before .before .before .before .before .before .n .given .1) (c .before .before .before .before .before .before .before .rst-explicit-markup-block .ensures) (c .before .before .before .len .given .1)),
+        λ e. alone-from s a _ (c .before .before .before .before .before .before .before .before .before .before .alone .ensures e),
+      ),
+    )
 
 enum-told : tie.Need-enum-told
 enum-told c = search needs
@@ -93,6 +112,9 @@ enum-told-2 c = search needs
 
 enum-told-3 : tie.Need-enum-told-3
 enum-told-3 c = search needs
+
+refused-line-requires : tie.Need-refused-line-requires
+refused-line-requires c κs = search needs
 
 same-length : tie.Need-same-length
 same-length c = search needs
@@ -113,7 +135,7 @@ returns-5 : tie.Need-returns-5
 returns-5 c = (omega arith, targetless-none _ 0 0 (omega arith))
 
 returns-6 : tie.Need-returns-6
-returns-6 c = (omega arith, targetless-none _ 0 0 (omega arith))
+returns-6 c = search needs
 
 returns-7 : tie.Need-returns-7
 returns-7 c = (omega arith, targetless-first _ (sym (c .before .starts-target .ensures) ∙ c .if2 .left))
@@ -131,11 +153,15 @@ targetless-spec =
     sub-if3
     returns-2
     add-e
-    sub-not-line-ending
-    part-not-line-ending-start
-    part-not-line-ending-end
+    sub-line
+    part-line-start
+    part-line-end
     not-line-ending-requires
     enum-known-n
+    sub-alone
+    part-alone-start
+    part-alone-end
+    alone-requires
     sub-rst-explicit-markup-block
     part-rst-explicit-markup-block-start
     part-rst-explicit-markup-block-end
@@ -146,6 +172,7 @@ targetless-spec =
     enum-told
     enum-told-2
     enum-told-3
+    refused-line-requires
     same-length
     returns-3
     same-length-2
