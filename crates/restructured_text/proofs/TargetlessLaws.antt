@@ -1,7 +1,7 @@
 -- The laws of `specs/Targetless.antt`. From each `_` that a run passes a run goes on to the same end, since behind `_` no escape is open: so
 -- where that end makes no name, or one whose target is refused, none of them begins a target. Behind a space no escape is open either: so
--- a wrong escape refuses each destination that begins before it. A block that starts later on the same line, with the same indent or where
--- no further line stands behind it, has the end of the first one's text. On a line that is refused each block is refused.
+-- a wrong escape refuses each destination that begins before it. A block that starts later on a line of the first one, with the same indent
+-- or where no further line stands behind it, has the end of the first one's text. On a line that is refused each block is refused.
 -- Assumes nothing.
 use Prim.Native.Nat.{ℕ, zero, suc, _+_, _-_, _<_, _≤_}
 use native.Mathlib.Omega.{arith}
@@ -10,7 +10,7 @@ use mathlib.Core.List.{List, [], _∷_, _++_}
 use mathlib.Core.Bool.{Bool, true, false, _&&_, false≢true, true≢false}
 use mathlib.Core.Logic.{_⊎_, inl, inr, ⊎-elim}
 use lib.Dec.{eqb}
-use lib.ListN.{length, getD, drop, take, length-drop}
+use lib.ListN.{length, getD, drop, take, length-drop, length-append}
 use lib.Seq.{drop-drop, length-take-le, drop-append-le}
 use borrow.Author.Tests.{eq-eqb, ne-eqb, eqb-true}
 use Rattle.rst_bytes.specs.Escaped.{isEscapable, isStop, taking, escapedOf}
@@ -26,9 +26,10 @@ use Rattle.rst_bytes.proofs.LineLaws.{not-line-ending-le, space0-le, space0-sta
 use Rattle.rst_bytes.proofs.TagLaws.{starts-append, starts-space}
 use Rattle.restructured_text.specs.declared.block.Block.{Block}
 use Rattle.restructured_text.specs.declared.block.Block.the-variants.{Joined}
+use Rattle.restructured_text.specs.declared.block.Line.the-variants.{Further}
 use Rattle.restructured_text.specs.declared.target.Raw.{Raw}
 use Rattle.restructured_text.specs.declared.transform.Transformed.the-variants.{Wrong}
-use Rattle.restructured_text.specs.Block.{startOf, three, cutOf, Joining, linesOf, BlockText, block, no-block, no-scratch, blockOf, blockIn, lentBlock}
+use Rattle.restructured_text.specs.Block.{startOf, three, cutOf, furtherOf, Joining, linesOf, BlockText, block, no-block, no-scratch, blockOf, blockIn, lentBlock}
 use Rattle.restructured_text.specs.Delimited.{delimitedOf}
 use Rattle.restructured_text.specs.Strings.{none}
 use Rattle.restructured_text.specs.Target.{namedOf, anonymousOf, label2targetOf, startsTarget}
@@ -38,7 +39,7 @@ use Rattle.restructured_text.specs.Targetless.{NoTarget, Targetless, Unn
 use Rattle.restructured_text.proofs.DelimitedLaws.{delimited-refused, delimited-unclosed, delimited-taken}
 use Rattle.restructured_text.proofs.TransformLaws as TransformLaws
 use Rattle.restructured_text.proofs.TransformLaws.{answer-refused, at-two}
-use Rattle.restructured_text.proofs.BlockLaws.{from, cut-none, cut-other, cut-short, further-none, lines-end, start-is, start-taken, start-refused, block-none, block-no-line, block-taken, lent-short, lent-enough}
+use Rattle.restructured_text.proofs.BlockLaws.{from, cut-none, cut-other, cut-short, further-none, further-pos, further-le, further-line-is, lines-end, lines-further, start-is, start-taken, start-refused, block-none, block-no-line, block-taken, lent-short, lent-enough}
 use Rattle.restructured_text.proofs.TargetLaws.{quoted-within, plain-none, plain-named, name-plain, name-quoted, parse-none, named-none, named-refused, anonymous-refuses, raw-all, no-target}
 
 -- A colon stops, another byte does not.
@@ -347,52 +348,53 @@ not-dots (b ∷ s) e = go (eqb b 0x5F) refl (eqb b 0x2E) refl e
     go x f false g i = rw (g, startsWith) refl
     go false f true g i = absurd (false≢true (sym (rw (f, startsWith) refl) ∙ i))
 
--- A block's text t, and c, which stands from a place k on: an indent of b bytes and a header, so that its text begins at place q of t, and
--- the same further lines.
-module _ (a n : ℕ) (t s : List ℕ) (row : Row a n t s) (k : ℕ) (c : List ℕ) (ic : c ≡ drop k s) (b : ℕ) (ib : b ≡ space0Of c) (al : Alike a n c s) (q : ℕ) (iq : q + a ≡ k + b) (h : q ≤ n) where
+-- A line of a block with text t, and c, which stands from a place k on: an indent of b bytes and a header, so that its text begins q bytes
+-- into that line, and the same further lines.
+module _ (indent : List ℕ) (h n y : ℕ) (t s : List ℕ) (row : Row indent h n y t s) (k : ℕ) (c : List ℕ) (ic : c ≡ drop k s) (b : ℕ) (ib : b ≡ space0Of c) (al : linesOf (take (space0Of c) c) 0 (drop n (drop (h + 3) s)) .text ≡ linesOf indent 0 (drop n (drop (h + 3) s)) .text) (q : ℕ) (iq : q + h ≡ k + b) (iz : q ≤ n) where
   abbrev line : List ℕ
-  line = drop (a + 3) s
+  line = drop (h + 3) s
 
   long : n ≤ length line
-  long = not-line-ending-le line n (row .1)
+  long = not-line-ending-le line n (row .0)
 
   same-rest : drop (b + 3) c ≡ drop q line
   same-rest =
-      let z : k + (b + 3) ≡ a + 3 + q = omega arith in
-      ap (drop (b + 3)) ic ∙ drop-drop (b + 3) k s ∙ ap (λ (i : ℕ). drop i s) z ∙ sym (drop-drop q (a + 3) s)
+      let z : k + (b + 3) ≡ h + 3 + q = omega arith in
+      ap (drop (b + 3)) ic ∙ drop-drop (b + 3) k s ∙ ap (λ (i : ℕ). drop i s) z ∙ sym (drop-drop q (h + 3) s)
 
   same-line : notLineEndingOf (drop (b + 3) c) ≡ Taken (n - q)
   same-line =
       let z : 0 + (n - (0 + q)) ≡ n - q = omega arith in
-      ap (lineFrom 0) same-rest ∙ line-drop line 0 n q 0 (row .1) (omega arith) ∙ ap Taken z
+      ap (lineFrom 0) same-rest ∙ line-drop line 0 n q 0 (row .0) (omega arith) ∙ ap Taken z
 
-  same-text : take (n - q) (drop (b + 3) c) ++ linesOf (take (space0Of c) c) 0 (drop (n - q) (drop (b + 3) c)) .text ≡ drop q t
+  same-text : take (n - q) (drop (b + 3) c) ++ linesOf (take (space0Of c) c) 0 (drop (n - q) (drop (b + 3) c)) .text ≡ drop (y + q) t
   same-text =
       let z : q + (n - q) ≡ n = omega arith in
       let more : drop (n - q) (drop (b + 3) c) ≡ drop n line = ap (drop (n - q)) same-rest ∙ drop-drop (n - q) q line ∙ ap (λ (i : ℕ). drop i line) z in
       ap (λ (l : List ℕ). take (n - q) (drop (b + 3) c) ++ linesOf (take (space0Of c) c) 0 l .text) more
       ∙ ap (λ (l : List ℕ). take (n - q) (drop (b + 3) c) ++ l) al
-      ∙ ap (λ (l : List ℕ). l ++ linesOf (take a s) 0 (drop n line) .text) (ap (take (n - q)) same-rest ∙ sym (drop-take q n line))
-      ∙ sym (drop-append-le q (take n line) (linesOf (take a s) 0 (drop n line) .text) (omega (arith, length-take-le n line long)))
-      ∙ ap (drop q) (sym (row .2))
+      ∙ ap (λ (l : List ℕ). l ++ linesOf indent 0 (drop n line) .text) (ap (take (n - q)) same-rest ∙ sym (drop-take q n line))
+      ∙ sym (drop-append-le q (take n line) (linesOf indent 0 (drop n line) .text) (omega (arith, length-take-le n line long)))
+      ∙ ap (drop q) (sym (row .1))
+      ∙ drop-drop q y t
 
   module _ (header : List ℕ) (g : length header ≡ 3) (d : startsWith header (from c b) ≡ true) where
-    same-block : blockOf header c ≡ block (drop q t) (b + 3 + (n - q) + linesOf (take (space0Of c) c) 0 (drop (n - q) (drop (b + 3) c)) .read)
+    same-block : blockOf header c ≡ block (drop (y + q) t) (b + 3 + (n - q) + linesOf (take (space0Of c) c) 0 (drop (n - q) (drop (b + 3) c)) .read)
     same-block =
         block-taken header c (b + 3) (start-taken c b ib header d ∙ ap (λ (i : ℕ). Taken (b + i)) g) (n - q) same-line
         ∙ ap (λ (l : List ℕ). block l (b + 3 + (n - q) + linesOf (take (space0Of c) c) 0 (drop (n - q) (drop (b + 3) c)) .read)) same-text
 
-  pub named-at : startsWith dots (from c b) ≡ true → Unnamed (drop q t) → NoTarget (drop k s)
-  named-at d f = subst NoTarget ic (λ label. target-dots label c (drop q t) _ (same-block dots refl d) ∙ f label _)
+  pub named-at : startsWith dots (from c b) ≡ true → Unnamed (drop (y + q) t) → NoTarget (drop k s)
+  named-at d f = subst NoTarget ic (λ label. target-dots label c (drop (y + q) t) _ (same-block dots refl d) ∙ f label _)
 
-  pub anonymous-at : startsWith strokes (from c b) ≡ true → Dead (drop q t) → NoTarget (drop k s)
+  pub anonymous-at : startsWith strokes (from c b) ≡ true → Dead (drop (y + q) t) → NoTarget (drop k s)
   anonymous-at d f =
       subst NoTarget ic
       (λ label.
-      target-strokes label c (drop q t) _
+      target-strokes label c (drop (y + q) t) _
       (block-none dots c (start-refused c b ib dots (not-dots (from c b) d)))
       (same-block strokes refl d)
-      ∙ anonymous-refuses (drop q t) _ _ (dead-refused (drop q t) f) label)
+      ∙ anonymous-refuses (drop (y + q) t) _ _ (dead-refused (drop (y + q) t) f) label)
 
 -- what begins a text is its front
 starts-take : (p s : List ℕ) → startsWith p s ≡ true → take (length p) s ≡ p
@@ -406,14 +408,12 @@ starts-take (c ∷ p) (b ∷ s) e = go (eqb b c) refl e (starts-take p s)
     go false f g ih = absurd (false≢true g)
 
 -- The same further lines, by the code's tests: none, or those of the same indent.
-module _ (a n : ℕ) (c s : List ℕ) (i : a ≡ space0Of s) where
-  pub alike-alone : Alone (drop n (drop (a + 3) s)) → Alike a n c s
-  alike-alone f = f c ∙ sym (ap (λ (k : ℕ). linesOf (take k s) 0 (drop n (drop (a + 3) s)) .text) i ∙ f s)
+module _ (indent c : List ℕ) where
+  pub alike-same : space0Of c ≡ length indent → startsWith indent c ≡ true → take (space0Of c) c ≡ indent
+  alike-same j e = ap (λ (k : ℕ). take k c) j ∙ starts-take indent c e
 
-  pub alike-same : space0Of c ≡ a → startsWith (take a s) c ≡ true → Alike a n c s
-  alike-same j e =
-      let l : length (take a s) ≡ a = length-take-le a s (omega (arith, space0-le s)) in
-      ap (λ (p : List ℕ). linesOf p 0 (drop n (drop (a + 3) s)) .text) (ap (λ (k : ℕ). take k c) (j ∙ sym l) ∙ starts-take (take a s) c e)
+  pub alike-here : (b : Bool) (s : List ℕ) → (b ≡ true → Alike indent s) → (b ≡ true) ⊎ (take (space0Of c) c ≡ indent) → linesOf (take (space0Of c) c) 0 s .text ≡ linesOf indent 0 s .text
+  alike-here b s f = ⊎-elim (λ e. f e c) (λ e. ap (λ (p : List ℕ). linesOf p 0 s .text) e)
 
 -- no line ends here
 module _ (s : List ℕ) where
@@ -451,10 +451,81 @@ unfolding startsSpace
 space-first [] h e = refl
 space-first (b ∷ s) h e = e
 
--- The line is within the text.
-module _ (a n : ℕ) (t s : List ℕ) (row : Row a n t s) where
-  pub row-le : n ≤ length s
-  row-le = omega (arith, not-line-ending-le (drop (a + 3) s) n (row .1), length-drop (a + 3) s)
+-- what stands from the line's end on, as the code has it
+rest-from : (s : List ℕ) (h n : ℕ) → from s (h + 3 + n) ≡ drop n (drop (h + 3) s)
+rest-from s h n = part-from s (h + 3 + n) ∙ sym (drop-drop n (h + 3) s)
+
+pub alone-alike : (indent s x : List ℕ) (h n : ℕ) → indent ≡ take (space0Of x) x → Alone (from s (h + 3 + n)) → Alike indent (drop n (drop (h + 3) s))
+alone-alike indent s x h n e f =
+    subst (Alike indent) (rest-from s h n)
+    (λ c. f c ∙ sym (ap (λ (p : List ℕ). linesOf p 0 (from s (h + 3 + n)) .text) e ∙ f x))
+
+-- behind what was taken
+drop-front : (n : ℕ) (x z : List ℕ) → n ≤ length x → drop n (take n x ++ z) ≡ z
+drop-front zero x z h = refl
+drop-front (suc n) [] z h = absurd (omega arith)
+drop-front (suc n) (b ∷ x) z h = drop-front n x z (omega arith)
+
+-- The next line of a block.
+module _ (indent : List ℕ) (h n y : ℕ) (t s : List ℕ) (row : Row indent h n y t s) (b m : ℕ) (e : furtherOf indent (from s (h + 3 + n)) ≡ Further b m) where
+  abbrev stop : ℕ
+  stop = h + 3 + n
+
+  abbrev tail : List ℕ
+  tail = drop stop s
+
+  next-further : furtherOf indent tail ≡ Further b m
+  next-further = ap (furtherOf indent) (sym (part-from s stop)) ∙ e
+
+  next-pos : 3 < b
+  next-pos = further-pos indent tail b m next-further
+
+  next-le : stop + b + m ≤ length s
+  next-le = omega (arith, further-le indent tail b m next-further, length-drop stop s, row .3, next-pos)
+
+  next-place : stop + (b - 3) + 3 ≡ stop + b
+  next-place = omega (arith, next-pos)
+
+  next-line : drop (stop + (b - 3) + 3) s ≡ drop b tail
+  next-line = ap (λ (i : ℕ). drop i s) next-place ∙ sym (drop-drop b stop s)
+
+  next-lines : linesOf indent 0 (drop n (drop (h + 3) s)) .text ≡ 0x20 ∷ (take m (drop b tail) ++ linesOf indent 0 (drop m (drop b tail)) .text)
+  next-lines =
+      ap (λ (l : List ℕ). linesOf indent 0 l .text) (drop-drop n (h + 3) s)
+      ∙ ap (λ (j : Joining). j .text) (lines-further indent tail b m next-further)
+      ∙ ap (λ (l : List ℕ). 0x20 ∷ (take m (drop b tail) ++ linesOf indent 0 l .text)) (sym (drop-drop m b tail))
+
+  next-whole : drop y t ≡ take n (drop (h + 3) s) ++ 0x20 ∷ (take m (drop b tail) ++ linesOf indent 0 (drop m (drop b tail)) .text)
+  next-whole = row .1 ∙ ap (λ (l : List ℕ). take n (drop (h + 3) s) ++ l) next-lines
+
+  next-rest : drop (y + n + 1) t ≡ take m (drop b tail) ++ linesOf indent 0 (drop m (drop b tail)) .text
+  next-rest =
+      sym (drop-drop 1 (y + n) t)
+      ∙ ap (drop 1) (sym (drop-drop n y t) ∙ ap (drop n) next-whole ∙ drop-front n (drop (h + 3) s) _ (not-line-ending-le (drop (h + 3) s) n (row .0)))
+
+  next-long : y + n + 1 + m ≤ length t
+  next-long =
+      let z = take m (drop b tail) ++ linesOf indent 0 (drop m (drop b tail)) .text in
+      omega (
+        arith,
+        ap length next-whole,
+        length-drop y t,
+        length-append (take n (drop (h + 3) s)) (0x20 ∷ z),
+        length-append (take m (drop b tail)) (linesOf indent 0 (drop m (drop b tail)) .text),
+        length-take-le n (drop (h + 3) s) (not-line-ending-le (drop (h + 3) s) n (row .0)),
+        length-take-le m (drop b tail) (not-line-ending-le (drop b tail) m (further-line-is indent tail b m next-further)),
+      )
+
+  pub row-next : Row indent (stop + (b - 3)) m (y + n + 1) t s
+  row-next = (
+    ap (lineFrom 0) next-line ∙ further-line-is indent tail b m next-further,
+    next-rest ∙ ap (λ (l : List ℕ). take m l ++ linesOf indent 0 (drop m l) .text) (sym next-line),
+    next-long,
+    omega (arith, next-place, next-le),
+  )
+
+  pub row-further : (3 < b) × (stop + b + m ≤ length s)
+  row-further = (next-pos, next-le)
 
 -- no target starts
 pub excluded-other : (s : List ℕ) (k : ℕ) → startsTarget (from s k) ≡ false → NoTarget (drop k s)
@@ -514,9 +585,9 @@ module _ (header s d d′ : List ℕ) (x : Block) (len m a n : ℕ) (i : a ≡ s
       (λ l. lent-block ∙ lent-enough header s d l)
       (lt-or-le (length d) (length s))
 
-  pub row-read : Row a n (take len d′) s
+  pub row-read : take len d′ ≡ take n (drop (a + 3) s) ++ linesOf (take a s) 0 (drop n (drop (a + 3) s)) .text
   unfolding isBlock textIn
-  row-read = (i, line, go (startOf header s) refl)
+  row-read = go (startOf header s) refl
     where
       line : notLineEndingOf (drop (a + 3) s) ≡ Taken n
       line = ap (lineFrom 0) (sym (part-from s (a + 3))) ∙ e
@@ -527,6 +598,39 @@ module _ (header s d d′ : List ℕ) (x : Block) (len m a n : ℕ) (i : a ≡ s
           let z : b ≡ a + 3 = omega (arith, start-is header s b g, i, h) in
           ap textIn (read-block ∙ block-taken header s (a + 3) (g ∙ ap Taken z) n line)
           ∙ ap (λ (k : ℕ). take n (drop (a + 3) s) ++ linesOf (take k s) 0 (drop n (drop (a + 3) s)) .text) (sym i)
+
+-- The first line of a block that stands behind the first byte.
+module _ (s t : List ℕ) (a n : ℕ) (l : a + 3 ≤ length (from s 1)) (e : notLineEndingOf (from (from s 1) (a + 3)) ≡ Taken n) (f : t ≡ take n (drop (a + 3) (from s 1)) ++ linesOf (take a (from s 1)) 0 (drop n (drop (a + 3) (from s 1))) .text) where
+  first-line : drop (a + 3) (from s 1) ≡ drop (a + 1 + 3) s
+  first-line =
+      let z : 1 + (a + 3) ≡ a + 1 + 3 = omega arith in
+      ap (drop (a + 3)) (part-from s 1) ∙ drop-drop (a + 3) 1 s ∙ ap (λ (i : ℕ). drop i s) z
+
+  first-taken : notLineEndingOf (drop (a + 1 + 3) s) ≡ Taken n
+  first-taken = ap (lineFrom 0) (sym first-line ∙ sym (part-from (from s 1) (a + 3))) ∙ e
+
+  first-text : t ≡ take n (drop (a + 1 + 3) s) ++ linesOf (take a (from s 1)) 0 (drop n (drop (a + 1 + 3) s)) .text
+  first-text = f ∙ ap (λ (l : List ℕ). take n l ++ linesOf (take a (from s 1)) 0 (drop n l) .text) first-line
+
+  first-le : n ≤ length (drop (a + 1 + 3) s)
+  first-le = not-line-ending-le (drop (a + 1 + 3) s) n first-taken
+
+  pub row-first : Row (take a (from s 1)) (a + 1) n 0 t s
+  row-first = (
+    first-taken,
+    first-text,
+    omega (
+      arith,
+      ap length first-text,
+      length-append (take n (drop (a + 1 + 3) s)) (linesOf (take a (from s 1)) 0 (drop n (drop (a + 1 + 3) s)) .text),
+      length-take-le n (drop (a + 1 + 3) s) first-le,
+    ),
+    omega (arith, first-le, length-drop (a + 1 + 3) s, ap length (part-from s 1), length-drop 1 s),
+  )
+
+-- the indent, as the code has it
+pub indent-first : (s : List ℕ) (a : ℕ) → a ≡ space0Of (from s 1) → take a (from s 1) ≡ take (space0Of (drop 1 s)) (drop 1 s)
+indent-first s a i = ap (λ (k : ℕ). take k (from s 1)) i ∙ ap (λ (l : List ℕ). take (space0Of l) l) (part-from s 1)
 
 -- the header, as the code has it
 pub header-three : (s : List ℕ) (a : ℕ) → a + 3 ≤ length s → length (take (a + 3 - a) (drop a s)) ≡ 3
@@ -574,8 +678,3 @@ module _ (s : List ℕ) (m : ℕ) (f : Broken m s) (h : space0Of s < m - 3) wher
   pub broken-target : NoTarget s
   unfolding label2targetOf
   broken-target label = simp (broken-block dots refl, broken-block strokes refl, label2targetOf)
-
--- what stands from the line's end on, as the code has it
-pub alone-from : (s : List ℕ) (a n : ℕ) → Alone (from (from (from s 1) (a + 3)) n) → Alone (drop n (drop (a + 3) (drop 1 s)))
-alone-from s a n f =
-    subst Alone (part-from (from (from s 1) (a + 3)) n ∙ ap (drop n) (part-from (from s 1) (a + 3) ∙ ap (drop (a + 3)) (part-from s 1))) f

@@ -48,20 +48,22 @@ Misescaped n t = (i : ℕ) → i < n → Spaced i t → answerOf (keptOf (drop i
 abbrev pub Dead : List ℕ → Type 0
 Dead s = answerOf (keptOf (take (rawOf s .len) (drop (rawOf s .start) s))) ≡ Wrong
 
--- t is the text of a block that begins s: an indent of a bytes, a header of three, n bytes up to the line's end, and the further lines
-abbrev pub Row : ℕ → ℕ → List ℕ → List ℕ → Type 0
-Row a n t s =
-    (a ≡ space0Of s) × (notLineEndingOf (drop (a + 3) s) ≡ Taken n)
-    × (t ≡ take n (drop (a + 3) s) ++ linesOf (take a s) 0 (drop n (drop (a + 3) s)) .text)
+-- t is a block's text with this indent, and from its place y on it is what stands in s behind the three bytes at place h: n bytes up to the
+-- line's end, and the further lines
+abbrev pub Row : List ℕ → ℕ → ℕ → ℕ → List ℕ → List ℕ → Type 0
+Row indent h n y t s =
+    (notLineEndingOf (drop (h + 3) s) ≡ Taken n)
+    × (drop y t ≡ take n (drop (h + 3) s) ++ linesOf indent 0 (drop n (drop (h + 3) s)) .text)
+    × (y + n ≤ length t)
+    × (h + 3 + n ≤ length s)
 
 -- no further line stands behind a line, whatever the indent: s is what stands from the line's end on
 abbrev pub Alone : List ℕ → Type 0
 Alone s = (x : List ℕ) → linesOf (take (space0Of x) x) 0 s .text ≡ []
 
--- the further lines of that block are those of a block that starts with c and ends its line there
-abbrev pub Alike : ℕ → ℕ → List ℕ → List ℕ → Type 0
-Alike a n c s =
-    linesOf (take (space0Of c) c) 0 (drop n (drop (a + 3) s)) .text ≡ linesOf (take a s) 0 (drop n (drop (a + 3) s)) .text
+-- the further lines that stand there are those of a block with this indent, whatever the indent
+abbrev pub Alike : List ℕ → List ℕ → Type 0
+Alike indent s = (c : List ℕ) → linesOf (take (space0Of c) c) 0 s .text ≡ linesOf indent 0 s .text
 
 -- each line that starts before place n has a CR without LF
 abbrev pub Broken : ℕ → List ℕ → Type 0

@@ -1,7 +1,9 @@
 // Places behind which no target starts: for the caller of the parsers, who tries a target behind each link. Of two targets that start on
-// one line, with the same indent or with no further lines, the later one's text is the end of the earlier one's, since the line and the
-// lines behind it end alike. So what the text of the first one shows, read once, is known of those behind it too.
+// the lines of one block, with the same indent or with no further lines, the later one's text is the end of the earlier one's, since the
+// line and the lines behind it end alike. So what the text of the first one shows, read once, is known of those behind it too.
 use crate::block::Block;
+use crate::block::Line;
+use crate::block::further_line;
 use crate::block::rst_explicit_markup_block;
 use crate::delimited::delimited;
 use crate::target::raw_target;
@@ -18,7 +20,8 @@ ghost use mathlib.Core.Path.{_≡_};
 ghost use mathlib.Core.Bool.{true};
 ghost use Prim.Native.Nat.{_+_, _≤_, _<_};
 ghost use Rattle.rst_bytes.specs.Line.{space0Of};
-ghost use lib.ListN.{length, drop};
+ghost use mathlib.Core.Logic.{_⊎_};
+ghost use lib.ListN.{length, drop, take};
 ghost use Rattle.restructured_text.specs.Targetless.{NoTarget, Targetless, Unnamed, Nameless, Spaced, Misescaped, Dead, Row, Alone, Alike, Broken};
 
 // Whether no target starts at a place, and between which places no plain name begins in a block's text.
@@ -211,27 +214,27 @@ fn alone(s: &[u8]) -> bool
     }
 }
 
-// Whether the further lines of a block that starts with c are those of the one that starts with s: there is none, or the indent is the same.
-fn alike(s: &[u8], a: usize, n: usize, c: &[u8], lone: bool) -> bool
-    requires indent { ⌜ a ≡ space0Of (now s) ⌝ }
-    requires lone { ⌜ (lone ≡ true → Alone (drop n (drop (a + 3) (now s)))) ⌝ }
-    ensures { λ r. ⌜ (r ≡ true → Alike a n (now (c .entry)) (now (s .entry))) ⌝ }
+// Whether the further lines behind a line are the same for a block that starts with c: there is none, or the indent is the same.
+fn alike(indent: &[u8], c: &[u8], lone: bool) -> bool
+    ensures { λ r. ⌜ (r ≡ true → (lone ≡ true) ⊎ (take (space0Of (now (c .entry))) (now (c .entry)) ≡ now (indent .entry))) ⌝ }
 {
     if lone {
         return true;
     }
-    if space0(c) == a {
-        return tag(c, &s[..a]);
+    if space0(c) == indent.len() {
+        return tag(c, indent);
     }
     false
 }
 
-// Whether no target starts at place k of s: n bytes of it, behind the indent of a bytes and three more, are the line, and t is the text
-// of the block.
+// Whether no target starts at place k of s: the text t of a block is from place y on a line of n bytes that stands three bytes behind place
+// h, and the lines behind it.
 fn excluded(
     s: &[u8],
-    a: usize,
+    indent: &[u8],
+    h: usize,
     n: usize,
+    y: usize,
     t: &[u8],
     lone: bool,
     from: usize,
@@ -239,9 +242,9 @@ fn excluded(
     k: usize,
     wrong: usize,
 ) -> Known
-    requires row { ⌜ Row a n (now t) (now s) ⌝ }
-    requires lone { ⌜ (lone ≡ true → Alone (drop n (drop (a + 3) (now s)))) ⌝ }
-    requires place { ⌜ k ≤ n ⌝ }
+    requires row { ⌜ Row (now indent) h n y (now t) (now s) ⌝ }
+    requires lone { ⌜ (lone ≡ true → Alike (now indent) (drop n (drop (h + 3) (now s)))) ⌝ }
+    requires place { ⌜ k ≤ length (now s) ⌝ }
     requires wrong { ⌜ Misescaped wrong (now t) ⌝ }
     requires none { ⌜ Nameless from to (now t) ⌝ }
     ensures free { λ r. ⌜ (r .free ≡ true → NoTarget (drop k (now (s .entry)))) ⌝ }
@@ -254,22 +257,22 @@ fn excluded(
             from,
             to,
         };
-        if alike(s, a, n, c, lone) {
+        if alike(indent, c, lone) {
             let b = space0(c);
-            if k + b < a {
+            if k + b < h {
                 return known;
             }
-            let q = k + b - a;
+            let q = k + b - h;
             if n < q {
                 return known;
             }
             let v = &c[b..];
             if tag(v, b".. ") {
-                return unnamed(t, from, to, q, wrong);
+                return unnamed(t, from, to, y + q, wrong);
             }
             if tag(v, b"__ ") {
                 return Known {
-                    free: dead(t, q, wrong),
+                    free: dead(t, y + q, wrong),
                     from,
                     to,
                 };
@@ -285,35 +288,94 @@ fn excluded(
     }
 }
 
-// How far no target starts directly behind a `_`, by what the text of the first block shows: it stands behind the first byte.
-fn passed(s: &[u8], a: usize, n: usize, t: &[u8], lone: bool) -> usize
-    requires some { ⌜ 0 < length (now s) ⌝ }
-    requires row { ⌜ Row a n (now t) (drop 1 (now s)) ⌝ }
-    requires lone { ⌜ (lone ≡ true → Alone (drop n (drop (a + 3) (drop 1 (now s))))) ⌝ }
+// How far no target starts directly behind a `_`, and between which places no plain name begins in a block's text.
+pub struct Reach {
+    pub place: usize,
+    pub from: usize,
+    pub to: usize,
+}
+
+// Passes a line from place `start` of s on, by what the text of a block shows: the line is one of the block's.
+fn passed(
+    s: &[u8],
+    indent: &[u8],
+    h: usize,
+    n: usize,
+    y: usize,
+    t: &[u8],
+    lone: bool,
+    known: Reach,
+    wrong: usize,
+) -> Reach
+    requires row { ⌜ Row (now indent) h n y (now t) (now s) ⌝ }
+    requires lone { ⌜ (lone ≡ true → Alike (now indent) (drop n (drop (h + 3) (now s)))) ⌝ }
+    requires place { ⌜ known .place ≤ length (now s) ⌝ }
+    requires passed { ⌜ Targetless 0 (known .place) (now s) ⌝ }
+    requires wrong { ⌜ Misescaped wrong (now t) ⌝ }
+    requires none { ⌜ Nameless (known .from) (known .to) (now t) ⌝ }
+    ensures within { λ r. ⌜ r .place ≤ length (now (s .entry)) ⌝ }
+    ensures passed { λ r. ⌜ Targetless 0 (r .place) (now (s .entry)) ⌝ }
+    ensures none { λ r. ⌜ Nameless (r .from) (r .to) (now (t .entry)) ⌝ }
+{
+    let e = h + 3 + n;
+    let mut place = known.place;
+    let mut from = known.from;
+    let mut to = known.to;
+    while place < e {
+        let b = s[place];
+        if b == b'_' {
+            let next = excluded(s, indent, h, n, y, t, lone, from, to, place + 1, wrong);
+            if next.free {
+                from = next.from;
+                to = next.to;
+                place = place + 1;
+            } else {
+                return Reach { place, from, to };
+            }
+        } else {
+            place = place + 1;
+        }
+    }
+    Reach { place, from, to }
+}
+
+// Passes the lines of a block, by what its text t shows: the first one's text stands three bytes behind place `head`, and has `len` bytes.
+fn passed_lines(s: &[u8], indent: &[u8], head: usize, len: usize, t: &[u8]) -> usize
+    requires row { ⌜ Row (now indent) head len 0 (now t) (now s) ⌝ }
+    requires indent { ⌜ now indent ≡ take (space0Of (drop 1 (now s))) (drop 1 (now s)) ⌝ }
     ensures within { λ r. ⌜ r ≤ length (now (s .entry)) ⌝ }
     ensures none { λ r. ⌜ Targetless 0 r (now (s .entry)) ⌝ }
 {
-    let u = &s[1..];
     let wrong = misescaped(t);
-    let mut k = 0;
+    let mut h = head;
+    let mut n = len;
+    let mut y = 0;
+    let mut place = 0;
     let mut from = 0;
     let mut to = 0;
-    while k < n {
-        let b = s[k];
-        if b == b'_' {
-            let known = excluded(u, a, n, t, lone, from, to, k, wrong);
-            if known.free {
-                from = known.from;
-                to = known.to;
-                k = k + 1;
-            } else {
-                return k;
+    loop {
+        let e = h + 3 + n;
+        let rest = &s[e..];
+        let lone = alone(rest);
+        let known = Reach { place, from, to };
+        let next = passed(s, indent, h, n, y, t, lone, known, wrong);
+        place = next.place;
+        if place < e {
+            return place;
+        }
+        match further_line(rest, indent) {
+            Line::Further(b, m) => {
+                from = next.from;
+                to = next.to;
+                y = y + n + 1;
+                h = e + (b - 3);
+                n = m;
             }
-        } else {
-            k = k + 1;
+            Line::End => {
+                return place;
+            }
         }
     }
-    k
 }
 
 // A place of a line that is refused, by a CR without LF: each line that starts before it is refused too.
@@ -392,17 +454,14 @@ pub fn targetless(s: &[u8], scratch: &mut [u8]) -> usize
         let e = a + 3;
         let line = &u[e..];
         match not_line_ending(line) {
-            Part::Taken(n) => {
-                let lone = alone(&line[n..]);
-                match rst_explicit_markup_block(u, &u[a..e], scratch) {
-                    Block::Joined(len, _) => {
-                        let v = &scratch[..];
-                        passed(s, a, n, &v[..len], lone)
-                    }
-                    Block::NoBlock => 0,
-                    Block::NoScratch => 0,
+            Part::Taken(n) => match rst_explicit_markup_block(u, &u[a..e], scratch) {
+                Block::Joined(len, _) => {
+                    let v = &scratch[..];
+                    passed_lines(s, &u[..a], a + 1, n, &v[..len])
                 }
-            }
+                Block::NoBlock => 0,
+                Block::NoScratch => 0,
+            },
             Part::Refused => refused_line(s),
         }
     } else {

@@ -1,72 +1,62 @@
--- `targetless::passed` meets its contract. The loop's invariant: k is on the line, before it no target starts directly behind a `_`, and what is
--- known of names is true. The measure is what is left of the line.
+-- `targetless::passed` meets its contract. The loop's invariant: before the place no target starts directly behind a `_`, and what is known of
+-- names is true. The measure is what is left of the line.
 -- Assumes nothing.
-use Prim.Native.Nat.{_≤_, _-_, _+_}
-use Prim.Native.Nat.{ℕ}
-use mathlib.Core.List.{List}
-use mathlib.Core.Path.{subst⁻¹}
+use Prim.Native.Nat.{_+_, _≤_, _-_}
+use mathlib.Core.Path.{refl}
 use native.Mathlib.Omega.{arith}
-use lib.ListN.{length, drop, length-drop}
-use borrow.Author.Needs.{needs}
-use Rattle.rst_bytes.proofs.Lists.{part-from}
-use Rattle.restructured_text.specs.Targetless.{Targetless, Nameless, Row, Alone}
-use Rattle.restructured_text.proofs.TargetlessLaws.{row-le, nameless-none, targetless-none, targetless-other, targetless-next}
+use lib.ListN.{length, drop}
+use Rattle.restructured_text.specs.Targetless.{Targetless, Nameless}
+use Rattle.restructured_text.proofs.TargetlessLaws.{targetless-other, targetless-behind}
 use Rattle.restructured_text.proofs.targetless.passed.Statement.{statement}
 use Rattle.restructured_text.proofs.targetless.passed.Tie as tie
 
 abbrev Inv-loop : tie.InvT-loop
-Inv-loop s a n t lone u wrong k₀ from₀ to₀ k from to = (k ≤ n) × (Targetless 0 k s × Nameless from to t)
+Inv-loop s indent h n y t lone wrong e place₀ from₀ to₀ place from to = (place ≤ length s) × (Targetless 0 place s × Nameless from to t)
 
 abbrev μ-loop : tie.MeasureT-loop
-μ-loop s a n t lone u wrong k₀ from₀ to₀ k from to = n - k
+μ-loop s indent h n y t lone wrong e place₀ from₀ to₀ place from to = h + 3 + n - place
 
-sub-u : tie.Need-sub-u Inv-loop μ-loop
-sub-u c = search needs
+add-e : tie.Need-add-e Inv-loop μ-loop
+add-e c = omega (arith, c .before .before .before .pre .0 .3)
 
-part-u-start : tie.Need-part-u-start Inv-loop μ-loop
-part-u-start c = search needs
-
-part-u-end : tie.Need-part-u-end Inv-loop μ-loop
-part-u-end c = search needs
-
-misescaped-requires : tie.Need-misescaped-requires Inv-loop μ-loop
-misescaped-requires c κs = search needs
+add-e-2 : tie.Need-add-e-2 Inv-loop μ-loop
+add-e-2 c = omega (arith, c .before .before .before .pre .0 .3)
 
 loop-holds : tie.Need-loop-holds Inv-loop μ-loop
-loop-holds c = (omega arith, (targetless-none _ 0 0 (omega arith), nameless-none _ 0 0 (omega arith)))
+loop-holds c = (c .before .before .before .pre .1 .1 .0, (c .before .before .before .pre .1 .1 .1 .0, c .before .before .before .pre .1 .1 .1 .1 .1))
 
 shared-slice-read-b : tie.Need-shared-slice-read-b Inv-loop μ-loop
-shared-slice-read-b c = omega (arith, row-le _ _ _ _ (c .before .before .before .before .before .before .before .pre .1 .0), length-drop 1 (c .before .before .before .before .before .before .before .args .s .now))
+shared-slice-read-b c = omega (arith, c .before .before .before .before .before .before .pre .0 .3)
+
+add-excluded : tie.Need-add-excluded Inv-loop μ-loop
+add-excluded c = omega (arith, c .before .before .before .before .before .before .before .pre .0 .3)
 
 excluded-requires : tie.Need-excluded-requires Inv-loop μ-loop
-excluded-requires c κs = (
-  subst⁻¹ (Row (c .before .before .before .before .before .before .before .before .args .a) (c .before .before .before .before .before .before .before .before .args .n) (c .before .before .before .before .before .before .before .before .args .t .now)) (part-from (c .before .before .before .before .before .before .before .before .args .s .now) 1) (c .before .before .before .before .before .before .before .before .pre .1 .0),
-  (λ e. subst⁻¹ (λ (u : List ℕ). Alone (drop (c .before .before .before .before .before .before .before .before .args .n) (drop (c .before .before .before .before .before .before .before .before .args .a + 3) u))) (part-from (c .before .before .before .before .before .before .before .before .args .s .now) 1) (c .before .before .before .before .before .before .before .before .pre .1 .1 e), (omega arith, (c .before .before .before .before .misescaped .ensures, c .before .before .before .loop .inv .1 .1))),
-)
+excluded-requires c κs = (c .before .before .before .before .before .before .before .pre .0, (c .before .before .before .before .before .before .before .pre .1 .0, (omega (arith, c .before .before .before .before .before .before .before .pre .0 .3), (c .before .before .before .before .before .before .before .pre .1 .1 .1 .1 .0, c .before .before .before .loop .inv .1 .1))))
 
-add-k : tie.Need-add-k Inv-loop μ-loop
-add-k c = search needs
+add-place : tie.Need-add-place Inv-loop μ-loop
+add-place c = omega (arith, c .before .before .before .before .before .before .before .before .before .pre .0 .3)
 
 loop-less : tie.Need-loop-less Inv-loop μ-loop
-loop-less c = search needs
+loop-less c = omega arith
 
 loop-again : tie.Need-loop-again Inv-loop μ-loop
-loop-again c = (omega arith, (targetless-next (c .before .before .before .before .before .before .before .before .before .before .args .s .now) (c .before .before .before .before .before .loop .k) (c .before .before .before .before .before .loop .inv .1 .0) _ (part-from (c .before .before .before .before .before .before .before .before .before .before .args .s .now) 1) (c .before .excluded .ensures .0 (c .if2 .taken)), c .before .excluded .ensures .1))
+loop-again c = (omega (arith, c .before .before .before .before .before .before .before .before .before .pre .0 .3), (targetless-behind (c .before .before .before .before .before .before .before .before .before .args .s .now) (c .before .before .before .before .before .loop .place) (c .before .before .before .before .before .loop .inv .1 .0) (drop (c .before .before .before .before .before .loop .place + 1) (c .before .before .before .before .before .before .before .before .before .args .s .now)) refl (c .before .excluded .ensures .0 (c .if2 .taken)), c .before .excluded .ensures .1))
 
 returns : tie.Need-returns Inv-loop μ-loop
-returns c = (omega (arith, row-le _ _ _ _ (c .before .before .before .before .before .before .before .before .before .before .pre .1 .0), length-drop 1 (c .before .before .before .before .before .before .before .before .before .before .args .s .now)), c .before .before .before .before .before .loop .inv .1 .0)
+returns c = c .before .before .before .before .before .loop .inv
 
-add-k-2 : tie.Need-add-k-2 Inv-loop μ-loop
-add-k-2 c = search needs
+add-place-2 : tie.Need-add-place-2 Inv-loop μ-loop
+add-place-2 c = omega (arith, c .before .before .before .before .before .before .before .pre .0 .3)
 
 loop-less-2 : tie.Need-loop-less-2 Inv-loop μ-loop
-loop-less-2 c = search needs
+loop-less-2 c = omega arith
 
 loop-again-2 : tie.Need-loop-again-2 Inv-loop μ-loop
-loop-again-2 c = (omega arith, (targetless-other (c .before .before .before .before .before .before .before .before .args .s .now) (c .before .before .before .loop .k) (c .before .before .before .loop .inv .1 .0) (c .if1 .left), c .before .before .before .loop .inv .1 .1))
+loop-again-2 c = (omega (arith, c .before .before .before .before .before .before .before .pre .0 .3), (targetless-other (c .before .before .before .before .before .before .before .args .s .now) (c .before .before .before .loop .place) (c .before .before .before .loop .inv .1 .0) (c .if1 .left), c .before .before .before .loop .inv .1 .1))
 
 returns-2 : tie.Need-returns-2 Inv-loop μ-loop
-returns-2 c = (omega (arith, row-le _ _ _ _ (c .before .before .before .before .before .before .pre .1 .0), length-drop 1 (c .before .before .before .before .before .before .args .s .now)), c .before .loop .inv .1 .0)
+returns-2 c = c .before .loop .inv
 
 pub passed-spec : {M : Type 1} → statement M
 passed-spec =
@@ -74,18 +64,17 @@ passed-spec =
     (tie.spec
     Inv-loop
     μ-loop
-    sub-u
-    part-u-start
-    part-u-end
-    misescaped-requires
+    add-e
+    add-e-2
     loop-holds
     shared-slice-read-b
+    add-excluded
     excluded-requires
-    add-k
+    add-place
     loop-less
     loop-again
     returns
-    add-k-2
+    add-place-2
     loop-less-2
     loop-again-2
     returns-2)

@@ -1,18 +1,15 @@
 -- `targetless::targetless` meets its contract: no target starts behind the first byte, or what was read into the scratch is the text of the
--- block there, as `passed` asks.
+-- block there, as `passed_lines` asks.
 -- Assumes nothing.
 use Prim.Native.Nat.{_+_, _≤_}
-use mathlib.Core.Path.{sym, subst, _∙_}
+use mathlib.Core.Path.{sym, _∙_}
 use native.Mathlib.Omega.{arith}
 use lib.ListN.{length}
 use lib.Seq.{length-take-le}
 use borrow.Author.Needs.{needs}
-use Rattle.rst_bytes.proofs.LineLaws.{not-line-ending-le}
-use Rattle.rst_bytes.proofs.Lists.{part-from}
-use Rattle.restructured_text.specs.Targetless.{Row}
-use Rattle.restructured_text.proofs.BlockLaws.{from, indent-le}
+use Rattle.restructured_text.proofs.BlockLaws.{from, indent-le, indent-length}
 use Rattle.restructured_text.proofs.TargetLaws.{block-room}
-use Rattle.restructured_text.proofs.TargetlessLaws.{targetless-none, targetless-first, header-three, row-read, alone-from}
+use Rattle.restructured_text.proofs.TargetlessLaws.{targetless-none, targetless-first, header-three, row-read, row-first, indent-first}
 use Rattle.restructured_text.proofs.targetless.targetless.Statement.{statement}
 use Rattle.restructured_text.proofs.targetless.targetless.Tie as tie
 
@@ -58,18 +55,6 @@ not-line-ending-requires c κs = search needs
 enum-known-n : tie.Need-enum-known-n
 enum-known-n c = search needs
 
-sub-alone : tie.Need-sub-alone
-sub-alone c = not-line-ending-le _ _ (sym (c .before .before .before .not-line-ending .ensures) ∙ c .before .n .given .1)
-
-part-alone-start : tie.Need-part-alone-start
-part-alone-start c = not-line-ending-le _ _ (sym (c .before .before .before .not-line-ending .ensures) ∙ c .before .n .given .1)
-
-part-alone-end : tie.Need-part-alone-end
-part-alone-end c = search needs
-
-alone-requires : tie.Need-alone-requires
-alone-requires c κs = search needs
-
 sub-rst-explicit-markup-block : tie.Need-sub-rst-explicit-markup-block
 sub-rst-explicit-markup-block c = search needs
 
@@ -85,23 +70,27 @@ rst-explicit-markup-block-requires c κs = search needs
 enum-known-len : tie.Need-enum-known-len
 enum-known-len c = search needs
 
-slice-aggregate-passed : tie.Need-slice-aggregate-passed
-slice-aggregate-passed c =
-    let s = c .before .before .before .before .before .before .before .before .before .before .before .before .before .before .before .before .before .before .before .before .before .before .before .before .before .args .s .now in
-    let l : c .before .before .before .before .before .before .before .before .before .before .before .before .before .before .before .before .before .before .space0 .result + 3 ≤ length (from s 1) = omega (arith, indent-le _ _ (c .before .before .before .before .before .before .before .before .before .before .before .before .before .before .before .before .before .before .space0 .ensures)) in
-    let w = block-room _ (from s 1) (c .before .before .before .before .before .before .before .before .before .before .before .before .before .before .before .before .before .before .before .before .before .before .before .before .before .args .scratch .now) _ _ _ _ (c .before .before .before .before .before .before .scratch .given) (c .before .before .before .before .before .before .before .rst-explicit-markup-block .ensures) (c .before .before .before .len .given .1) (omega (arith, header-three (from s 1) (c .before .before .before .before .before .before .before .before .before .before .before .before .before .before .before .before .before .before .space0 .result) l)) in
+slice-aggregate-passed-lines : tie.Need-slice-aggregate-passed-lines
+slice-aggregate-passed-lines c = indent-length _ _ (c .before .before .before .before .before .before .before .before .before .before .before .before .before .before .before .before .space0 .ensures)
+
+add-passed-lines : tie.Need-add-passed-lines
+add-passed-lines c = search needs
+
+slice-aggregate-passed-lines-2 : tie.Need-slice-aggregate-passed-lines-2
+slice-aggregate-passed-lines-2 c =
+    let s = c .before .before .before .before .before .before .before .before .before .before .before .before .before .before .before .before .before .before .before .before .before .before .before .before .args .s .now in
+    let l : c .before .before .before .before .before .before .before .before .before .before .before .before .before .before .before .before .before .space0 .result + 3 ≤ length (from s 1) = omega (arith, indent-le _ _ (c .before .before .before .before .before .before .before .before .before .before .before .before .before .before .before .before .before .space0 .ensures)) in
+    let w = block-room _ (from s 1) (c .before .before .before .before .before .before .before .before .before .before .before .before .before .before .before .before .before .before .before .before .before .before .before .before .args .scratch .now) _ _ _ _ (c .before .before .before .before .before .before .before .scratch .given) (c .before .before .before .before .before .before .before .before .rst-explicit-markup-block .ensures) (c .before .before .before .before .len .given .1) (omega (arith, header-three (from s 1) (c .before .before .before .before .before .before .before .before .before .before .before .before .before .before .before .before .before .space0 .result) l)) in
     sym (length-take-le _ _ (omega (arith, w .0, w .1)))
 
-passed-requires : tie.Need-passed-requires
-passed-requires c κs =
-    let s = c .before .before .before .before .before .before .before .before .before .before .before .before .before .before .before .before .before .before .before .before .before .before .before .before .before .args .s .now in
-    let a = c .before .before .before .before .before .before .before .before .before .before .before .before .before .before .before .before .before .before .space0 .result in
-    let l : a + 3 ≤ length (from s 1) = omega (arith, indent-le _ _ (c .before .before .before .before .before .before .before .before .before .before .before .before .before .before .before .before .before .before .space0 .ensures)) in (
-      omega arith,
-      (
-        subst (Row _ _ _) (part-from s 1) (row-read _ (from s 1) (c .before .before .before .before .before .before .before .before .before .before .before .before .before .before .before .before .before .before .before .before .before .before .before .before .before .args .scratch .now) _ _ _ _ _ _ (c .before .before .before .before .before .before .before .before .before .before .before .before .before .before .before .before .before .before .space0 .ensures) (header-three (from s 1) a l) (sym (c .before .before .before .before .before .before .before .before .before .before .before .before .before .before .before .not-line-ending .ensures) ∙ c .before .before .before .before .before .before .before .before .before .before .before .before .before .n .given .1) (c .before .before .before .before .before .before .before .rst-explicit-markup-block .ensures) (c .before .before .before .len .given .1)),
-        λ e. alone-from s a _ (c .before .before .before .before .before .before .before .before .before .before .alone .ensures e),
-      ),
+passed-lines-requires : tie.Need-passed-lines-requires
+passed-lines-requires c κs =
+    let s = c .before .before .before .before .before .before .before .before .before .before .before .before .before .before .before .before .before .before .before .before .before .before .before .before .args .s .now in
+    let a = c .before .before .before .before .before .before .before .before .before .before .before .before .before .before .before .before .before .space0 .result in
+    let l : a + 3 ≤ length (from s 1) = omega (arith, indent-le _ _ (c .before .before .before .before .before .before .before .before .before .before .before .before .before .before .before .before .before .space0 .ensures)) in
+    let e = sym (c .before .before .before .before .before .before .before .before .before .before .before .before .before .before .not-line-ending .ensures) ∙ c .before .before .before .before .before .before .before .before .before .before .before .before .n .given .1 in (
+      row-first s _ a _ l e (row-read _ (from s 1) (c .before .before .before .before .before .before .before .before .before .before .before .before .before .before .before .before .before .before .before .before .before .before .before .before .args .scratch .now) _ _ _ _ _ _ (c .before .before .before .before .before .before .before .before .before .before .before .before .before .before .before .before .before .space0 .ensures) (header-three (from s 1) a l) e (c .before .before .before .before .before .before .before .before .rst-explicit-markup-block .ensures) (c .before .before .before .before .len .given .1)),
+      indent-first s a (c .before .before .before .before .before .before .before .before .before .before .before .before .before .before .before .before .before .space0 .ensures),
     )
 
 enum-told : tie.Need-enum-told
@@ -158,17 +147,15 @@ targetless-spec =
     part-line-end
     not-line-ending-requires
     enum-known-n
-    sub-alone
-    part-alone-start
-    part-alone-end
-    alone-requires
     sub-rst-explicit-markup-block
     part-rst-explicit-markup-block-start
     part-rst-explicit-markup-block-end
     rst-explicit-markup-block-requires
     enum-known-len
-    slice-aggregate-passed
-    passed-requires
+    slice-aggregate-passed-lines
+    add-passed-lines
+    slice-aggregate-passed-lines-2
+    passed-lines-requires
     enum-told
     enum-told-2
     enum-told-3
