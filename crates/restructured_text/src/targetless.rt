@@ -295,7 +295,7 @@ pub struct Reach {
     pub to: usize,
 }
 
-// Passes a line from place `start` of s on, by what the text of a block shows: the line is one of the block's.
+// Passes a line of a block from the known place of s on, up to the line's end, by what the text of the block shows.
 fn passed(
     s: &[u8],
     indent: &[u8],
