@@ -91,6 +91,14 @@ put-rest a d y h =
     ∙ ap (λ (z : List ℕ). y ++ z) (drop-of-length-le (drop a d) {i = length d - a} (omega (arith, length-drop a d)))
     ∙ append-nil y
 
+-- what is lent of marks from a place on
+pub marks-part : (m : List ℕ) (a : ℕ) → length m ≡ 16384 → take (16384 - a) (drop a m) ≡ drop a m
+marks-part m a e = ap (λ (n : ℕ). take (n - a) (drop a m)) (sym e) ∙ part-from m a
+
+-- and what comes back
+pub marks-rest : (m : List ℕ) (a : ℕ) (v : List ℕ) → length m ≡ 16384 → a ≤ 16384 → drop a (putMid a (16384 - a) m v) ≡ v
+marks-rest m a v e h = subst (λ (n : ℕ). drop a (putMid a (n - a) m v) ≡ v) e (put-rest a m v (omega (arith, e)))
+
 -- Document s, work numbers t and work bytes w before a scan; its answer r, and y, what it left in the bytes that it was lent.
 module _ (s t w : List ℕ) (c : MarkupLinkCollection) (k : Held 0 0 t c) (h : c .at ≤ length s) (l : length s ≤ 16384) (q : Roomy t w) where
   pub filled : c .fill + 16384 ≤ room
@@ -137,16 +145,20 @@ module _ (s t w : List ℕ) (c : MarkupLinkCollection) (k : Held 0 0 t c) (h : c
       pub scannable : length w′ ≡ length w → Ends r → Scannable t w′ x c
       scannable g v = ((q .0, omega (arith, g, q .1)), (k, (subst Ends f v, omega (arith, inside .1))))
 
-      -- what is known behind it is true of what is read next
+      -- what is known behind it is true of what is read next, with the marks v that were lent from there on
       pub next-known :
-          (known : Known) → TrueBehind (take (length s - c .at) (drop (c .at) s)) known r
-          → (n : ℕ) → n ≡ c .at + scannedBytes (linkOf x (drop (c .fill) w′)) → Holds 0 known (drop n s)
-      next-known known b n g =
-          subst (Holds 0 known)
-          (ap (drop (linkEnd x)) (part-from s (c .at))
-          ∙ drop-drop (linkEnd x) (c .at) s
-          ∙ ap (λ (z : ℕ). drop z s) (ap (λ (z : ℕ). c .at + z) (sym (link-bytes x (drop (c .fill) w′))) ∙ sym g))
-          (subst (TrueBehind (take (length s - c .at) (drop (c .at) s)) known) f b)
+          (known : Known) (m v : List ℕ) → length m ≡ 16384 → TrueBehind (take (length s - c .at) (drop (c .at) s)) v known r
+          → (n : ℕ) → n ≡ c .at + scannedBytes (linkOf x (drop (c .fill) w′))
+          → Holds 0 known (drop n (putMid (c .at) (16384 - c .at) m v)) (drop n s)
+      next-known known m v h b n g =
+          subst (λ (z : List ℕ). Holds 0 known z (drop n s))
+          (ap (drop (linkEnd x)) (sym (marks-rest m (c .at) v h (omega arith))) ∙ drop-drop (linkEnd x) (c .at) (putMid (c .at) (16384 - c .at) m v) ∙ ap (λ (z : ℕ). drop z (putMid (c .at) (16384 - c .at) m v)) ends)
+          (subst (Holds 0 known (drop (linkEnd x) v))
+          (ap (drop (linkEnd x)) (part-from s (c .at)) ∙ drop-drop (linkEnd x) (c .at) s ∙ ap (λ (z : ℕ). drop z s) ends)
+          (subst (TrueBehind (take (length s - c .at) (drop (c .at) s)) v known) f b))
+        where
+          ends : c .at + linkEnd x ≡ n
+          ends = ap (λ (z : ℕ). c .at + z) (sym (link-bytes x (drop (c .fill) w′))) ∙ sym g
 
       -- what all links of the rest add, by what this one adds
       goes :

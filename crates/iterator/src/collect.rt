@@ -12,6 +12,7 @@ use crate::rows::RENDERED;
 use crate::rows::ROWS_MAX;
 use crate::rows::put_link;
 use crate::rows::put_pair;
+use parse::DOCUMENT_LEN_MAX;
 use parse::Known;
 use parse::Link;
 use parse::Scan;
@@ -388,7 +389,8 @@ fn new() -> MarkupLinkCollection
     }
 }
 
-// All links of the document, or the number of a refusal. What a scan learnt of backticks is handed to the next.
+// All links of the document, or the number of a refusal. What a scan learnt of backticks and blocks is handed to the next; so are the
+// marks of the places at which no block begins, once they are made.
 pub fn collect(document: &[u8], render: u32, numbers: &mut [u32], bytes: &mut [u8]) -> Step
     requires { ⌜ (length (now document) ≤ 16384) × Roomy (now numbers) (now bytes) ⌝ }
     ensures step { λ r. ⌜ stepOf (now (document .entry)) (now (numbers .exit)) (now (bytes .exit)) r ≡ collectAll render (now (document .entry)) (linksOf (now (document .entry))) ⌝ }
@@ -399,12 +401,14 @@ pub fn collect(document: &[u8], render: u32, numbers: &mut [u32], bytes: &mut [u
         shut: 0,
         barren: 0,
         blocks: 0,
-        unfollowed: 0,
+        marked: false,
+        failed: 0,
     };
+    let mut marks = [0u8; DOCUMENT_LEN_MAX];
     while c.at < document.len() {
         let at = c.at;
         let fill = c.fill;
-        let scanned = next_link(&document[at..], &mut bytes[fill..], known);
+        let scanned = next_link(&document[at..], &mut bytes[fill..], &mut marks[at..], known);
         let scan = scanned.scan;
         match scan {
             Scan::Found(x) => match add(render, x, c, numbers, bytes) {

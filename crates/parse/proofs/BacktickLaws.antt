@@ -27,7 +27,7 @@ use Rattle.parse.specs.declared.Known.{Known}
 use Rattle.parse.specs.Link.{Scanned, nothing, behind, orElse}
 use Rattle.parse.specs.Forms.{anonymous, named, reference, tried, rst}
 use Rattle.parse.specs.Scan.{isOpening, openingOf, referenceAt, followed, inlineAt}
-use Rattle.parse.specs.Inner.{Each, Tick, Any, NoPart, NoLink, NoBlock, Shut, Holds, Marked}
+use Rattle.parse.specs.Inner.{Each, Tick, Any, NoPart, NoLink, NoBlock, Shut, Holds}
 use Rattle.parse.proofs.FormsLaws.{tried-next}
 
 -- Any claim of the bytes from a place on.
@@ -55,9 +55,9 @@ module _ (Claim : ℕ → List ℕ → Type 0) where
       (subst⁻¹ (Claim (getD s (k + i) 0)) (drop-drop i k s) (f (k + i) (omega arith) (omega arith)))
 
 -- all that is known stays known further on
-pub holds-later : (s : List ℕ) (m k : ℕ) (known : Known) → m ≤ k → Holds m known s → Holds k known s
-holds-later s m k known h w =
-    (each-later (Tick NoPart) s m k (known .shut) h (w .0), each-later (Tick NoLink) s m k (known .barren) h (w .1), each-later (Any NoBlock) s m k (known .blocks) h (w .2), each-later Marked s m k (known .unfollowed) h (w .3))
+pub holds-later : (s marks : List ℕ) (m k : ℕ) (known : Known) → m ≤ k → Holds m known marks s → Holds k known marks s
+holds-later s marks m k known h w =
+    (each-later (Tick NoPart) s m k (known .shut) h (w .0), each-later (Tick NoLink) s m k (known .barren) h (w .1), each-later (Any NoBlock) s m k (known .blocks) h (w .2), w .3)
 
 -- where a part that is read from place i on ends, it is not closed
 abbrev pub Unclosed : List ℕ → ℕ → Type 0

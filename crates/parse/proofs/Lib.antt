@@ -5,7 +5,7 @@ pub mod AppendingLaws
 pub mod FormsLaws
 pub mod BacktickLaws
 pub mod BarrenLaws
-pub mod UnfollowedLaws
+pub mod BarredLaws
 pub mod RoundLaws
 pub mod CalmLaws
 pub mod OnwardLaws

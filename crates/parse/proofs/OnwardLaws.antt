@@ -19,17 +19,18 @@ use Rattle.parse.specs.Link.{linkOf, scannedOf}
 use Rattle.parse.specs.Forms.{rst}
 use Rattle.parse.specs.Scan.{rounds}
 use Rattle.parse.specs.Laws.{Inside}
-use Rattle.parse.specs.Inner.{Tick, Any, NoPart, NoLink, NoBlock, Marked, Blockless, Holds, Free, knownFrom, linkEnd, HoldsBehind}
+use Rattle.parse.specs.Inner.{Tick, Any, NoPart, NoLink, NoBlock, Blockless, Holds, Free, knownFrom, linkEnd, EndsWithin, HoldsBehind}
 use Rattle.parse.proofs.ScanLaws.{rounds-inside, rst-consuming}
 use Rattle.parse.proofs.BacktickLaws.{each-none, each-front, holds-later}
+use Rattle.parse.proofs.BarredLaws.{untold, told-front}
 
 -- nothing known is true of every text
-pub holds-nothing : (s : List ℕ) (m : ℕ) → Holds m (record { shut = 0; barren = 0; blocks = 0; unfollowed = 0 }) s
-holds-nothing s m = (
+pub holds-nothing : (s marks : List ℕ) (m : ℕ) → Holds m (record { shut = 0; barren = 0; blocks = 0; marked = false; failed = 0 }) marks s
+holds-nothing s marks m = (
   each-none (Tick NoPart) s m 0 (omega arith),
   each-none (Tick NoLink) s m 0 (omega arith),
   each-none (Any NoBlock) s m 0 (omega arith),
-  each-none Marked s m 0 (omega arith),
+  untold 0 marks s,
 )
 
 -- where it is told, no block begins at the front
@@ -40,23 +41,25 @@ blocks-front s free f =
     (λ e i h l. absurd (omega arith))
 
 -- all that is known from m on is true of what stands from a later place on
-holds-front : (s : List ℕ) (m k free : ℕ) (known : Known) → m ≤ k → Holds m known s → Free free (drop k s) → Holds 0 (knownFrom k free known) (drop k s)
-holds-front s m k free known h w f =
-    (each-front (Tick NoPart) s m k (known .shut) h (w .0), each-front (Tick NoLink) s m k (known .barren) h (w .1), blocks-front (drop k s) free (f .0), f .1)
+holds-front :
+    (s marks : List ℕ) (m k free failed : ℕ) (known : Known) → m ≤ k → Holds m known marks s → Free free (drop k s)
+    → Holds 0 (knownFrom k free failed known) (drop k marks) (drop k s)
+holds-front s marks m k free failed known h w f =
+    (each-front (Tick NoPart) s m k (known .shut) h (w .0), each-front (Tick NoLink) s m k (known .barren) h (w .1), blocks-front (drop k s) free f, told-front (known .marked) marks s (w .3) k)
 
 -- the places as `known_from` has them
 pub known-is :
-    (known : Known) (n a b c d free : ℕ) → a ≡ known .shut - n → b ≡ known .barren - n → c ≡ elim (ltb 0 free) [ true ↦ 1 | false ↦ 0 ]
-    → d ≡ free - 1 → record { shut = a; barren = b; blocks = c; unfollowed = d } ≡ knownFrom n free known
-known-is known n a b c d free e f g h = rw (e, f, g, h)
+    (known : Known) (n a b c failed free : ℕ) → a ≡ known .shut - n → b ≡ known .barren - n → c ≡ elim (ltb 0 free) [ true ↦ 1 | false ↦ 0 ]
+    → record { shut = a; barren = b; blocks = c; marked = known .marked; failed = failed } ≡ knownFrom n free failed known
+known-is known n a b c failed free e f g = rw (e, f, g)
 
 -- and what `next_of` hands on
 pub behind-holds :
-    (s : List ℕ) (x : Link) (known k : Known) (n free : ℕ) → Holds (linkEnd x) known s → Free free (drop (linkEnd x) s)
-    → n ≡ linkEnd x → k ≡ knownFrom n free known → Holds 0 k (drop (linkEnd x) s)
-behind-holds s x known k n free w h e f =
-    subst⁻¹ (λ (z : Known). Holds 0 z (drop (linkEnd x) s)) (f ∙ ap (λ (m : ℕ). knownFrom m free known) e)
-    (holds-front s (linkEnd x) (linkEnd x) free known (omega arith) w h)
+    (s marks : List ℕ) (x : Link) (known k : Known) (n free failed : ℕ) → Holds (linkEnd x) known marks s → Free free (drop (linkEnd x) s)
+    → n ≡ linkEnd x → k ≡ knownFrom n free failed known → Holds 0 k (drop (linkEnd x) marks) (drop (linkEnd x) s)
+behind-holds s marks x known k n free failed w h e f =
+    subst⁻¹ (λ (z : Known). Holds 0 z (drop (linkEnd x) marks) (drop (linkEnd x) s)) (f ∙ ap (λ (m : ℕ). knownFrom m free failed known) e)
+    (holds-front s marks (linkEnd x) (linkEnd x) free failed known (omega arith) w h)
 
 -- a link ends behind where it starts
 link-inside : (i n : ℕ) (x : Link) (d : List ℕ) → Inside i n (linkOf x d) → (i ≤ linkEnd x) × (linkEnd x ≤ n)
@@ -66,12 +69,20 @@ link-inside i n (Text2Label a b k m) d w = (omega arith, w .2)
 link-inside i n (Label2Dest a b k m) d w = (omega arith, w .2)
 link-inside i n (Label2Label a b k m) d w = (omega arith, w .2)
 
--- what is known at place i is true behind the link that the rounds from there on find
-pub found-holds :
-    (s : List ℕ) (i : ℕ) (start : Bool) (known : Known) (d : List ℕ) (x : Scan) → i ≤ length s → Holds i known s
-    → scannedOf x d ≡ rounds rst 0 start i (drop i s) → HoldsBehind s known x
-found-holds s i start known d (Found x) h w e =
+-- the link that the rounds from place i on find ends within the text, and what is known at place i is true behind it
+pub found-within :
+    (s : List ℕ) (i : ℕ) (start : Bool) (d : List ℕ) (x : Scan) → i ≤ length s → scannedOf x d ≡ rounds rst 0 start i (drop i s) → EndsWithin s x
+found-within s i start d (Found x) h e =
     let v = link-inside i (i + length (drop i s)) x d (subst (Inside i (i + length (drop i s))) (sym e) (rounds-inside rst rst-consuming (drop i s) 0 start i)) in
-    (omega (arith, v .1, length-drop i s), holds-later s i (linkEnd x) known (v .0) w)
-found-holds s i start known d NotFound h w e = tt
-found-holds s i start known d NoRoom h w e = tt
+    omega (arith, v .1, length-drop i s)
+found-within s i start d NotFound h e = tt
+found-within s i start d NoRoom h e = tt
+
+pub found-holds :
+    (s marks : List ℕ) (i : ℕ) (start : Bool) (known : Known) (d : List ℕ) (x : Scan) → Holds i known marks s
+    → scannedOf x d ≡ rounds rst 0 start i (drop i s) → HoldsBehind s known marks x
+found-holds s marks i start known d (Found x) w e =
+    let v = link-inside i (i + length (drop i s)) x d (subst (Inside i (i + length (drop i s))) (sym e) (rounds-inside rst rst-consuming (drop i s) 0 start i)) in
+    holds-later s marks i (linkEnd x) known (v .0) w
+found-holds s marks i start known d NotFound w e = tt
+found-holds s marks i start known d NoRoom w e = tt

@@ -60,35 +60,36 @@ NoBlock s = tried (rst .blocks) s ≡ nothing
 abbrev pub Blockless : ℕ → ℕ → List ℕ → Type 0
 Blockless m n s = Each (Any NoBlock) m n s
 
--- none begins directly behind the byte, if that is _
-abbrev pub Marked : ℕ → List ℕ → Type 0
-Marked b s = b ≡ 0x5F → NoBlock (drop 1 s)
+-- where 1 is marked no block begins: the marks are those of a text in which s stands at place m
+abbrev pub Barred : ℕ → List ℕ → List ℕ → Type 0
+Barred m marks s = (k : ℕ) → getD marks (m + k) 0 ≡ 1 → NoBlock (drop k s)
 
-abbrev pub Unfollowed : ℕ → ℕ → List ℕ → Type 0
-Unfollowed m n s = Each Marked m n s
+-- if it is told that they are marked
+abbrev pub Told : Bool → ℕ → List ℕ → List ℕ → Type 0
+Told marked m marks s = marked ≡ true → Barred m marks s
 
 -- the first unescaped backtick or < is <
 abbrev pub Opened : List ℕ → Type 0
 Opened s = (n : ℕ) × (taking 0x60 0x3C false 0 s ≡ Taken n) × (n < length s) × (getD s n 0 ≡ 0x3C)
 
--- what is known from place m on is true
-abbrev pub Holds : ℕ → Known → List ℕ → Type 0
-Holds m known s =
-    Shut m (known .shut) s × Barren m (known .barren) s × Blockless m (known .blocks) s × Unfollowed m (known .unfollowed) s
+-- what is known from place m on is true, with these marks of the text
+abbrev pub Holds : ℕ → Known → List ℕ → List ℕ → Type 0
+Holds m known marks s =
+    Shut m (known .shut) s × Barren m (known .barren) s × Blockless m (known .blocks) s × Told (known .marked) 0 marks s
 
--- what is told of blocks in a text by a number: where it is not 0, none begins at the front, nor directly behind a _ of so many bytes
--- less one
+-- what is told of blocks in a text by a number: where it is not 0, none begins at the front
 abbrev pub Free : ℕ → List ℕ → Type 0
-Free n s = (0 < n → NoBlock s) × Unfollowed 0 (n - 1) s
+Free n s = 0 < n → NoBlock s
 
--- what is known, with places counted from place n on, and what is told of blocks there
-abbrev pub knownFrom : ℕ → ℕ → Known → Known
-knownFrom n free known =
+-- what is known, with places counted from place n on, and what is told of blocks there; whatever is counted
+abbrev pub knownFrom : ℕ → ℕ → ℕ → Known → Known
+knownFrom n free failed known =
     record {
       shut = known .shut - n;
       barren = known .barren - n;
       blocks = elim (ltb 0 free) [ true ↦ 1 | false ↦ 0 ];
-      unfollowed = free - 1;
+      marked = known .marked;
+      failed = failed;
     }
 
 -- the place behind a link
@@ -99,11 +100,17 @@ linkEnd (Text2Label a b skipped consumed) = skipped + consumed
 linkEnd (Label2Dest a b skipped consumed) = skipped + consumed
 linkEnd (Label2Label a b skipped consumed) = skipped + consumed
 
+-- a link that was found ends within s
+abbrev pub EndsWithin : List ℕ → Scan → Type 0
+EndsWithin s (Found x) = linkEnd x ≤ length s
+EndsWithin s NotFound = Unit {0}
+EndsWithin s NoRoom = Unit {0}
+
 -- where a link of s was found, what is known is true from behind it on
-abbrev pub HoldsBehind : List ℕ → Known → Scan → Type 0
-HoldsBehind s known (Found x) = (linkEnd x ≤ length s) × Holds (linkEnd x) known s
-HoldsBehind s known NotFound = Unit {0}
-HoldsBehind s known NoRoom = Unit {0}
+abbrev pub HoldsBehind : List ℕ → Known → List ℕ → Scan → Type 0
+HoldsBehind s known marks (Found x) = Holds (linkEnd x) known marks s
+HoldsBehind s known marks NotFound = Unit {0}
+HoldsBehind s known marks NoRoom = Unit {0}
 
 -- what is told of blocks behind a link of s is true; of nothing else is it told
 abbrev pub FreeBehind : List ℕ → ℕ → Scan → Type 0
@@ -115,14 +122,14 @@ FreeBehind s free NoRoom = free ≡ 0
 abbrev pub FreeFrom : ℕ → List ℕ → Answer → Type 0
 FreeFrom n t r = (s : List ℕ) → t ≡ drop n s → FreeBehind s (r .free) (r .scan)
 
--- what is known is true of the text behind a link
-abbrev pub TrueBehind : List ℕ → Known → Scan → Type 0
-TrueBehind s known (Found x) = Holds 0 known (drop (linkEnd x) s)
-TrueBehind s known NotFound = Unit {0}
-TrueBehind s known NoRoom = Unit {0}
+-- what is known is true of the text behind a link, with the marks from there on
+abbrev pub TrueBehind : List ℕ → List ℕ → Known → Scan → Type 0
+TrueBehind s marks known (Found x) = Holds 0 known (drop (linkEnd x) marks) (drop (linkEnd x) s)
+TrueBehind s marks known NotFound = Unit {0}
+TrueBehind s marks known NoRoom = Unit {0}
 
-abbrev pub NextHolds : List ℕ → Next → Type 0
-NextHolds s r = TrueBehind s (r .known) (r .scan)
+abbrev pub NextHolds : List ℕ → List ℕ → Next → Type 0
+NextHolds s marks r = TrueBehind s marks (r .known) (r .scan)
 
 -- what a step says, with the scratch as it was left: places count from the front of the text
 abbrev pub stepOf : Step → List ℕ → Round
@@ -134,9 +141,9 @@ StepEnds (Stops x free) = Ends x
 StepEnds (Passes next known) = Unit {0}
 
 -- what is told of blocks behind the link, or known from the next place on, is true
-abbrev pub StepHolds : List ℕ → Step → Type 0
-StepHolds s (Stops x free) = FreeBehind s free x
-StepHolds s (Passes next known) = Holds next known s
+abbrev pub StepHolds : List ℕ → List ℕ → Step → Type 0
+StepHolds s marks (Stops x free) = FreeBehind s free x
+StepHolds s marks (Passes next known) = Holds next known marks s
 
 -- from place i on and before place j of s no byte is _ or a backtick
 abbrev pub Calm : ℕ → ℕ → List ℕ → Type 0

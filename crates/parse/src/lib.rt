@@ -19,7 +19,9 @@ use crate::rounds::round;
 use restructured_text::Span;
 use rst_bytes::Outside;
 use rst_bytes::domain::first_outside;
+use targetless::mark;
 ghost use mathlib.Core.Path.{_≡_};
+ghost use Prim.Native.Nat.{ℕ};
 ghost use Rattle.parse.specs.Link.{scannedOf, Ends, lent};
 ghost use Rattle.parse.specs.Scan.{scanOf};
 ghost use Rattle.parse.specs.Single.{outcomeOf, singleOf, Fronts};
@@ -48,12 +50,14 @@ pub enum Scan {
 }
 
 // What is known from a place on: before `shut` no backtick begins a part that is closed, before `barren` none begins an embedded link,
-// before `blocks` no block begins, and before `unfollowed` none begins directly behind a `_`.
+// before `blocks` no block begins; and if `marked`, none begins at a place that is marked. `failed` counts the blocks that were read and
+// are none, up to 8: no claim is made of it.
 pub struct Known {
     pub shut: usize,
     pub barren: usize,
     pub blocks: usize,
-    pub unfollowed: usize,
+    pub marked: bool,
+    pub failed: usize,
 }
 
 // A scan's answer, and what is known from behind the link that was found, if one was.
@@ -81,19 +85,50 @@ pub fn take_link(s: &[u8], scratch: &mut [u8]) -> Scan
         shut: 0,
         barren: 0,
         blocks: 0,
-        unfollowed: 0,
+        marked: false,
+        failed: 0,
     };
-    let next = next_link(s, scratch, known);
+    let mut marks = [0u8; 1];
+    let next = next_link(s, scratch, &mut marks, known);
     next.scan
 }
 
+// Marks the places at which no block begins, if 8 blocks were read that are none and there are marks for the whole text. What was known
+// is known then too.
+fn marking(s: &[u8], scratch: &mut [u8], marks: &mut [u8], known: Known) -> Known
+    ensures { λ r. ⌜ ((i : ℕ) → Holds i known (now (marks .entry)) (now (s .entry)) → Holds i r (now (marks .exit)) (now (s .entry))) ⌝ }
+{
+    if known.marked {
+        return known;
+    }
+    if known.failed < 8 {
+        return known;
+    }
+    if marks.len() < s.len() {
+        return known;
+    }
+    let marked = mark(s, marks, scratch);
+    let mut failed = 0;
+    if marked {
+        failed = 8;
+    }
+    Known {
+        shut: known.shut,
+        barren: known.barren,
+        blocks: known.blocks,
+        marked,
+        failed,
+    }
+}
+
 // The same where something is known; what is known behind the link is handed back. It is `iterator` that goes from link to link so. This
-// alone of the public functions asks something of its caller: that what it hands in is true, as what it was handed back is.
-pub fn next_link(s: &[u8], scratch: &mut [u8], known: Known) -> Next
-    requires known { ⌜ Holds 0 known (now s) ⌝ }
+// alone of the public functions asks something of its caller: that what it hands in is true, as what it was handed back is. The marks
+// are one for each place of the text; where there are fewer, none is written.
+pub fn next_link(s: &[u8], scratch: &mut [u8], marks: &mut [u8], known: Known) -> Next
+    requires known { ⌜ Holds 0 known (now marks) (now s) ⌝ }
     ensures scan { λ r. ⌜ scannedOf (r .scan) (now (scratch .exit)) ≡ lent (now (s .entry)) (now (scratch .entry)) (scanOf (now (s .entry))) ⌝ }
     ensures ends { λ r. ⌜ Ends (r .scan) ⌝ }
-    ensures known { λ r. ⌜ NextHolds (now (s .entry)) r ⌝ }
+    ensures known { λ r. ⌜ NextHolds (now (s .entry)) (now (marks .exit)) r ⌝ }
 {
     if scratch.len() < s.len() {
         return next_of(s, Scan::NoRoom, known, 0);
@@ -112,7 +147,8 @@ pub fn next_link(s: &[u8], scratch: &mut [u8], known: Known) -> Next
             input_start = false;
             continue;
         }
-        match round(s, i, scratch, input_start, known) {
+        known = marking(s, scratch, marks, known);
+        match round(s, i, scratch, marks, input_start, known) {
             Step::Stops(x, free) => {
                 return next_of(s, x, known, free);
             }

@@ -4,9 +4,10 @@ use crate::Link;
 use crate::Next;
 use crate::Scan;
 ghost use mathlib.Core.Path.{_≡_};
-ghost use Prim.Native.Nat.{_-_, _≤_};
+ghost use mathlib.Core.List.{List};
+ghost use Prim.Native.Nat.{ℕ, _-_, _≤_};
 ghost use lib.ListN.{length};
-ghost use Rattle.parse.specs.Inner.{linkEnd, knownFrom, HoldsBehind, FreeBehind, NextHolds};
+ghost use Rattle.parse.specs.Inner.{linkEnd, knownFrom, EndsWithin, HoldsBehind, FreeBehind, NextHolds};
 
 // The place behind a link of s.
 fn end_of(x: Link, s: &[u8]) -> usize
@@ -23,7 +24,7 @@ fn end_of(x: Link, s: &[u8]) -> usize
 }
 
 // Place i, counted from place n on; 0 if it stands before that.
-pub fn place_from(i: usize, n: usize) -> usize
+fn place_from(i: usize, n: usize) -> usize
     ensures { λ r. ⌜ r ≡ i - n ⌝ }
 {
     if i < n {
@@ -32,34 +33,51 @@ pub fn place_from(i: usize, n: usize) -> usize
     i - n
 }
 
+// One more of the blocks that were read and are none, up to 8.
+pub fn counted(failed: usize) -> usize
+    ensures { λ r. ⌜ r ≤ 8 ⌝ }
+{
+    if failed < 8 {
+        return failed + 1;
+    }
+    8
+}
+
 // What is known, with places counted from place n on, and with what is told of blocks there.
 fn known_from(known: Known, n: usize, free: usize) -> Known
-    ensures { λ r. ⌜ r ≡ knownFrom n free known ⌝ }
+    ensures { λ r. ⌜ r ≡ knownFrom n free (r .failed) known ⌝ }
 {
     let shut = place_from(known.shut, n);
     let barren = place_from(known.barren, n);
+    let marked = known.marked;
+    let mut failed = known.failed;
+    if free == 2 {
+        failed = counted(failed);
+    }
     if 0 < free {
         return Known {
             shut,
             barren,
             blocks: 1,
-            unfollowed: free - 1,
+            marked,
+            failed,
         };
     }
     Known {
         shut,
         barren,
         blocks: 0,
-        unfollowed: 0,
+        marked,
+        failed,
     }
 }
 
-// A scan's answer, and what is known from behind the link that it found.
+// A scan's answer, and what is known from behind the link that it found, with whatever marks.
 pub fn next_of(s: &[u8], x: Scan, known: Known, free: usize) -> Next
-    requires known { ⌜ HoldsBehind (now s) known x ⌝ }
+    requires within { ⌜ EndsWithin (now s) x ⌝ }
     requires free { ⌜ FreeBehind (now s) free x ⌝ }
     ensures scan { λ r. ⌜ r .scan ≡ x ⌝ }
-    ensures known { λ r. ⌜ NextHolds (now (s .entry)) r ⌝ }
+    ensures known { λ r. ⌜ ((marks : List ℕ) → HoldsBehind (now (s .entry)) known marks x → NextHolds (now (s .entry)) marks r) ⌝ }
 {
     match x {
         Scan::Found(link) => {

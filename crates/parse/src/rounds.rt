@@ -2,6 +2,7 @@
 //
 // A step takes the text and a place in it; one that tries parsers is also lent a scratch as long as the text. What an earlier round
 // learnt is handed on as places, so that the text before them is not read again and again; and with a link that no block begins behind it.
+// Once several blocks were read that are none, the places of the text are marked at which none begins: there none is read.
 use crate::Known;
 use crate::Scan;
 use crate::backtick::unclosed;
@@ -9,13 +10,15 @@ use crate::barren::barren;
 use crate::forms::Answer;
 use crate::forms::block;
 use crate::forms::embedded;
+use crate::forms::may_begin;
 use crate::forms::reference;
-use crate::onward::place_from;
+use crate::onward::counted;
 use rst_bytes::line::space0;
 ghost use mathlib.Core.Path.{_≡_};
 ghost use mathlib.Core.Bool.{true, false, _||_};
 ghost use lib.Dec.{ltb};
-ghost use Prim.Native.Nat.{_≤_, _<_};
+ghost use mathlib.Core.List.{List};
+ghost use Prim.Native.Nat.{ℕ, _≤_, _<_};
 ghost use lib.ListN.{length, drop, getD};
 ghost use Rattle.rst_bytes.specs.Line.{bytesFrom};
 ghost use Rattle.parse.specs.Link.{nothing, scannedOf, Ends, behind};
@@ -35,10 +38,10 @@ ghost use Rattle.parse.specs.Scan.{
   roundOf,
   later,
 };
-ghost use Rattle.parse.specs.Inner.{Shut, Barren, Blockless, Unfollowed, Holds, FreeBehind, stepOf, StepEnds, StepHolds};
+ghost use Rattle.parse.specs.Inner.{Shut, Barren, Told, Holds, FreeBehind, stepOf, StepEnds, StepHolds};
 
-// A round's answer: the scan's, and whether it is a link behind which no block begins; or the place where the next round starts, and what
-// is known from there on.
+// A round's answer: the scan's, and what is told of blocks behind the link; or the place where the next round starts, and what is known
+// from there on.
 pub enum Step {
     Stops(Scan, usize),
     Passes(usize, Known),
@@ -70,20 +73,47 @@ fn starts(before: bool, n: usize) -> bool
     0 < n
 }
 
-// (b) A block, at line or input start. It is not looked for where it is known that none begins.
-fn block_at(s: &[u8], i: usize, scratch: &mut [u8], line: bool, blocks: usize) -> Scan
-    requires room { ⌜ (i ≤ length (now s)) × (length (now s) ≤ length (now scratch)) ⌝ }
-    requires blocks { ⌜ Blockless i blocks (now s) ⌝ }
-    ensures scan { λ r. ⌜ scannedOf r (now (scratch .exit)) ≡ behind i (blockAt rst line (drop i (now (s .entry)))) ⌝ }
-    ensures ends { λ r. ⌜ Ends r ⌝ }
+// Whether a block is to be read at place i: at line or input start, unless it is known that none begins.
+fn is_read(s: &[u8], i: usize, line: bool, marks: &[u8], known: Known) -> bool
+    requires place { ⌜ i ≤ length (now s) ⌝ }
+    requires known { ⌜ Holds i known (now marks) (now s) ⌝ }
+    ensures { λ r. ⌜ blockAt rst r (drop i (now (s .entry))) ≡ blockAt rst line (drop i (now (s .entry))) ⌝ }
 {
     if line {
-        if i < blocks {
-            return Scan::NotFound;
+        if i < known.blocks {
+            return false;
         }
+        return may_begin(s, i, 0, marks, known.marked);
+    }
+    false
+}
+
+// (b) A block, if it is to be read.
+fn block_at(s: &[u8], i: usize, scratch: &mut [u8], read: bool) -> Scan
+    requires room { ⌜ (i ≤ length (now s)) × (length (now s) ≤ length (now scratch)) ⌝ }
+    ensures scan { λ r. ⌜ scannedOf r (now (scratch .exit)) ≡ behind i (blockAt rst read (drop i (now (s .entry)))) ⌝ }
+    ensures ends { λ r. ⌜ Ends r ⌝ }
+{
+    if read {
         return block(&s[i..], i, scratch);
     }
     Scan::NotFound
+}
+
+// What is known once no block was found: one that was read is none.
+fn missed(known: Known, read: bool) -> Known
+    ensures { λ r. ⌜ ((i : ℕ) (marks s : List ℕ) → Holds i known marks s → Holds i r marks s) ⌝ }
+{
+    if read {
+        return Known {
+            shut: known.shut,
+            barren: known.barren,
+            blocks: known.blocks,
+            marked: known.marked,
+            failed: counted(known.failed),
+        };
+    }
+    known
 }
 
 // (e) One of `([<'"`.
@@ -94,9 +124,16 @@ fn is_opening(b: u8) -> bool
 }
 
 // (e) A reference, behind one of these if there is one.
-fn reference_at(s: &[u8], i: usize, scratch: &mut [u8], spaced: bool, unfollowed: usize) -> Answer
+fn reference_at(
+    s: &[u8],
+    i: usize,
+    scratch: &mut [u8],
+    marks: &[u8],
+    spaced: bool,
+    marked: bool,
+) -> Answer
     requires room { ⌜ (i < length (now s)) × (length (now s) ≤ length (now scratch)) ⌝ }
-    requires known { ⌜ Unfollowed i unfollowed (now s) ⌝ }
+    requires known { ⌜ Told marked 0 (now marks) (now s) ⌝ }
     ensures scan { λ r. ⌜ scannedOf (r .scan) (now (scratch .exit)) ≡ behind i (followed rst (drop i (now (s .entry))) (referenceAt rst spaced (drop i (now (s .entry))))) ⌝ }
     ensures ends { λ r. ⌜ Ends (r .scan) ⌝ }
     ensures free { λ r. ⌜ FreeBehind (now (s .entry)) (r .free) (r .scan) ⌝ }
@@ -105,9 +142,9 @@ fn reference_at(s: &[u8], i: usize, scratch: &mut [u8], spaced: bool, unfollowed
         let b = s[i];
         if is_opening(b) {
             let j = i + 1;
-            return reference(&s[j..], j, scratch, place_from(unfollowed, j));
+            return reference(&s[j..], j, scratch, marks, marked);
         }
-        return reference(&s[i..], i, scratch, place_from(unfollowed, i));
+        return reference(&s[i..], i, scratch, marks, marked);
     }
     Answer {
         scan: Scan::NotFound,
@@ -116,14 +153,21 @@ fn reference_at(s: &[u8], i: usize, scratch: &mut [u8], spaced: bool, unfollowed
 }
 
 // (d) and (e) at a backtick.
-fn inline_at(s: &[u8], i: usize, scratch: &mut [u8], spaced: bool, unfollowed: usize) -> Answer
+fn inline_at(
+    s: &[u8],
+    i: usize,
+    scratch: &mut [u8],
+    marks: &[u8],
+    spaced: bool,
+    marked: bool,
+) -> Answer
     requires room { ⌜ (i < length (now s)) × (length (now s) ≤ length (now scratch)) ⌝ }
-    requires known { ⌜ Unfollowed i unfollowed (now s) ⌝ }
+    requires known { ⌜ Told marked 0 (now marks) (now s) ⌝ }
     ensures scan { λ r. ⌜ scannedOf (r .scan) (now (scratch .exit)) ≡ behind i (inlineAt rst spaced (drop i (now (s .entry)))) ⌝ }
     ensures ends { λ r. ⌜ Ends (r .scan) ⌝ }
     ensures free { λ r. ⌜ FreeBehind (now (s .entry)) (r .free) (r .scan) ⌝ }
 {
-    let found = embedded(&s[i..], i, scratch, place_from(unfollowed, i));
+    let found = embedded(&s[i..], i, scratch, marks, marked);
     let scan = found.scan;
     match scan {
         Scan::Found(_) => {
@@ -134,7 +178,7 @@ fn inline_at(s: &[u8], i: usize, scratch: &mut [u8], spaced: bool, unfollowed: u
             return found;
         }
     }
-    reference_at(s, i, scratch, spaced, unfollowed)
+    reference_at(s, i, scratch, marks, spaced, marked)
 }
 
 // (f) One of the bytes at which a link may start.
@@ -205,13 +249,20 @@ fn may_embed(s: &[u8], i: usize, barren: usize) -> bool
 }
 
 // (d) to (f) at a backtick.
-fn backtick_round(s: &[u8], i: usize, scratch: &mut [u8], spaced: bool, known: Known) -> Step
+fn backtick_round(
+    s: &[u8],
+    i: usize,
+    scratch: &mut [u8],
+    marks: &[u8],
+    spaced: bool,
+    known: Known,
+) -> Step
     requires room { ⌜ (i < length (now s)) × (length (now s) ≤ length (now scratch)) ⌝ }
     requires tick { ⌜ getD (now s) i 0 ≡ 0x60 ⌝ }
-    requires known { ⌜ Holds i known (now s) ⌝ }
+    requires known { ⌜ Holds i known (now marks) (now s) ⌝ }
     ensures step { λ r. ⌜ stepOf r (now (scratch .exit)) ≡ later i (textRound rst spaced (drop i (now (s .entry)))) ⌝ }
     ensures ends { λ r. ⌜ StepEnds r ⌝ }
-    ensures known { λ r. ⌜ StepHolds (now (s .entry)) r ⌝ }
+    ensures known { λ r. ⌜ StepHolds (now (s .entry)) (now (marks .entry)) r ⌝ }
 {
     let shut = shut_from(s, i, known.shut);
     if i < shut {
@@ -219,11 +270,12 @@ fn backtick_round(s: &[u8], i: usize, scratch: &mut [u8], spaced: bool, known: K
             shut,
             barren: known.barren,
             blocks: known.blocks,
-            unfollowed: known.unfollowed,
+            marked: known.marked,
+            failed: known.failed,
         };
         return Step::Passes(passed(s, i), known);
     }
-    let found = inline_at(s, i, scratch, spaced, known.unfollowed);
+    let found = inline_at(s, i, scratch, marks, spaced, known.marked);
     let scan = found.scan;
     match scan {
         Scan::Found(_) => Step::Stops(scan, found.free),
@@ -233,7 +285,8 @@ fn backtick_round(s: &[u8], i: usize, scratch: &mut [u8], spaced: bool, known: K
                 shut,
                 barren: i + n,
                 blocks: known.blocks,
-                unfollowed: known.unfollowed,
+                marked: known.marked,
+                failed: known.failed,
             };
             Step::Passes(passed(s, i), known)
         }
@@ -242,20 +295,27 @@ fn backtick_round(s: &[u8], i: usize, scratch: &mut [u8], spaced: bool, known: K
 }
 
 // (d) to (f).
-fn text_round(s: &[u8], i: usize, scratch: &mut [u8], spaced: bool, known: Known) -> Step
+fn text_round(
+    s: &[u8],
+    i: usize,
+    scratch: &mut [u8],
+    marks: &[u8],
+    spaced: bool,
+    known: Known,
+) -> Step
     requires room { ⌜ (i ≤ length (now s)) × (length (now s) ≤ length (now scratch)) ⌝ }
-    requires known { ⌜ Holds i known (now s) ⌝ }
+    requires known { ⌜ Holds i known (now marks) (now s) ⌝ }
     ensures step { λ r. ⌜ stepOf r (now (scratch .exit)) ≡ later i (textRound rst spaced (drop i (now (s .entry)))) ⌝ }
     ensures ends { λ r. ⌜ StepEnds r ⌝ }
-    ensures known { λ r. ⌜ StepHolds (now (s .entry)) r ⌝ }
+    ensures known { λ r. ⌜ StepHolds (now (s .entry)) (now (marks .entry)) r ⌝ }
 {
     if s.len() <= i {
         return Step::Stops(Scan::NotFound, 0);
     }
     if may_embed(s, i, known.barren) {
-        return backtick_round(s, i, scratch, spaced, known);
+        return backtick_round(s, i, scratch, marks, spaced, known);
     }
-    let found = reference_at(s, i, scratch, spaced, known.unfollowed);
+    let found = reference_at(s, i, scratch, marks, spaced, known.marked);
     let scan = found.scan;
     match scan {
         Scan::Found(_) => Step::Stops(scan, found.free),
@@ -265,17 +325,25 @@ fn text_round(s: &[u8], i: usize, scratch: &mut [u8], spaced: bool, known: Known
 }
 
 // (a) to (f).
-pub fn round(s: &[u8], i: usize, scratch: &mut [u8], start: bool, known: Known) -> Step
+pub fn round(
+    s: &[u8],
+    i: usize,
+    scratch: &mut [u8],
+    marks: &[u8],
+    start: bool,
+    known: Known,
+) -> Step
     requires room { ⌜ (i ≤ length (now s)) × (length (now s) ≤ length (now scratch)) ⌝ }
-    requires known { ⌜ Holds i known (now s) ⌝ }
+    requires known { ⌜ Holds i known (now marks) (now s) ⌝ }
     ensures step { λ r. ⌜ stepOf r (now (scratch .exit)) ≡ later i (roundOf rst start (drop i (now (s .entry)))) ⌝ }
     ensures ends { λ r. ⌜ StepEnds r ⌝ }
-    ensures known { λ r. ⌜ StepHolds (now (s .entry)) r ⌝ }
+    ensures known { λ r. ⌜ StepHolds (now (s .entry)) (now (marks .entry)) r ⌝ }
 {
     let n = newlines(&s[i..]);
     let a = i + n;
     let line = starts(start, n);
-    match block_at(s, a, scratch, line, known.blocks) {
+    let read = is_read(s, a, line, marks, known);
+    match block_at(s, a, scratch, read) {
         Scan::Found(x) => {
             return Step::Stops(Scan::Found(x), 0);
         }
@@ -286,5 +354,5 @@ pub fn round(s: &[u8], i: usize, scratch: &mut [u8], start: bool, known: Known) 
     }
     let m = space0(&s[a..]);
     let spaced = starts(line, m);
-    text_round(s, a + m, scratch, spaced, known)
+    text_round(s, a + m, scratch, marks, spaced, missed(known, read))
 }

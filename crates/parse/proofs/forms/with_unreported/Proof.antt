@@ -1,37 +1,18 @@
--- `forms::with_unreported` meets its contract: where it is known that no block begins there is none; else the reader of both blocks is
--- lent what stands behind the first n bytes, of the text and of the scratch. Where it finds neither, no block begins there, and what is
--- learnt of those behind is told.
+-- `forms::with_unreported` meets its contract: where no block is to be read there is none; else the reader of both blocks is lent what
+-- stands behind the first n bytes, of the text and of the scratch. Where it finds neither, no block begins there.
 -- Assumes nothing.
-use Prim.Native.Nat.{_+_, _-_}
-use mathlib.Core.Path.{_≡_, refl, subst, _∙_}
+use mathlib.Core.Path.{refl}
 use native.Mathlib.Omega.{arith}
-use lib.ListN.{length, drop}
-use borrow.Rule.Slice.PartMut.{putMid}
+use lib.ListN.{drop}
 use Rattle.restructured_text.proofs.TargetLaws.{label2label-room}
 use Rattle.parse.proofs.FormsLaws.{no-block, unreported-answered, unreported-found, unreported-none, unreported-le, front-kept}
-use Rattle.parse.proofs.UnfollowedLaws.{no-block-unreported, free-nothing, known-free, learnt-free}
+use Rattle.parse.proofs.BarredLaws.{no-block-unreported, free-nothing}
 use borrow.Author.Needs.{needs}
 use Rattle.parse.proofs.forms.with_unreported.Statement.{statement}
 use Rattle.parse.proofs.forms.with_unreported.Tie as tie
 
-is-known-requires : tie.Need-is-known-requires
-is-known-requires c κs = search needs
-
-sub-t7 : tie.Need-sub-t7
-sub-t7 c = c .before .is-known .ensures .0 (c .if1 .taken) .0
-
-sub-t8 : tie.Need-sub-t8
-sub-t8 c =
-    let w = c .before .is-known .ensures .0 (c .if1 .taken) in
-    omega (arith, w .1)
-
-returns : tie.Need-returns
-returns c =
-    let s = c .before .before .before .before in
-    let w = c .before .is-known .ensures in
-    let h = w .0 (c .if1 .taken) in
-    let g = w .1 (c .if1 .taken) in
-    (no-block-unreported (s .args .s .now) (s .args .n) g, (refl, known-free (s .args .s .now) (s .args .n) (s .args .unfollowed) (s .pre .1) (h .0) (h .1) g))
+may-begin-requires : tie.Need-may-begin-requires
+may-begin-requires c κs = search needs
 
 sub-rst-target : tie.Need-sub-rst-target
 sub-rst-target c = search needs
@@ -61,8 +42,7 @@ enum-known-m : tie.Need-enum-known-m
 enum-known-m c = search needs
 
 add-t19 : tie.Need-add-t19
-add-t19 c =
-    let s = c .before .before .before .before .before .before .before .before .before .before .before .before in
+add-t19 c = let s = c .before .before .before .before .before .before .before .before .before .before .before .before .before in
     let x = c .before .before .before .before .before .rst-target in
     let e = unreported-answered (s .args .s .now) (s .args .n) (s .args .scratch .now) (x .last .1 .0) (x .result) _ (s .pre .0) (x .ensures .0) (x .ensures .1 .0) (c .before .m .given .1) in
     omega (arith, unreported-le (s .args .s .now) (s .args .n) _ _ _ (s .pre .0 .0) (e .1))
@@ -70,30 +50,14 @@ add-t19 c =
 enum-told-2 : tie.Need-enum-told-2
 enum-told-2 c = search needs
 
-sub-learnt : tie.Need-sub-learnt
-sub-learnt c = search needs
-
-part-learnt-start : tie.Need-part-learnt-start
-part-learnt-start c = search needs
-
-part-learnt-end : tie.Need-part-learnt-end
-part-learnt-end c = search needs
-
-learnt-requires : tie.Need-learnt-requires
-learnt-requires c κs = search needs
-
-add-t25 : tie.Need-add-t25
-add-t25 c = search needs
-
 enum-told-3 : tie.Need-enum-told-3
 enum-told-3 c = search needs
 
 same-length : tie.Need-same-length
 same-length c = search needs
 
-returns-2 : tie.Need-returns-2
-returns-2 c =
-    let s = c .before .before .before .before .before .before .before .before .before .before .before in
+returns : tie.Need-returns
+returns c = let s = c .before .before .before .before .before .before .before .before .before .before .before .before in
     let x = c .before .before .before .before .rst-target in
     let e = unreported-answered (s .args .s .now) (s .args .n) (s .args .scratch .now) (x .last .1 .0) (x .result) _ (s .pre .0) (x .ensures .0) (x .ensures .1 .0) (c .enum-told .given .1) in
     (unreported-none (s .args .s .now) (s .args .n) (e .1), (front-kept (s .args .n) (s .args .scratch .now) (x .last .1 .0) (omega (arith, s .pre .0)), free-nothing _))
@@ -101,9 +65,8 @@ returns-2 c =
 same-length-2 : tie.Need-same-length-2
 same-length-2 c = search needs
 
-returns-3 : tie.Need-returns-3
-returns-3 c =
-    let s = c .before .before .before .before .before .before .before .before .before .before .before .before in
+returns-2 : tie.Need-returns-2
+returns-2 c = let s = c .before .before .before .before .before .before .before .before .before .before .before .before .before in
     let x = c .before .before .before .before .before .rst-target in
     let e = unreported-answered (s .args .s .now) (s .args .n) (s .args .scratch .now) (x .last .1 .0) (x .result) _ (s .pre .0) (x .ensures .0) (x .ensures .1 .0) (c .before .m .given .1) in
     (unreported-found (s .args .s .now) (s .args .n) _ _ _ (e .1), (front-kept (s .args .n) (s .args .scratch .now) (x .last .1 .0) (omega (arith, s .pre .0)), free-nothing _))
@@ -111,31 +74,31 @@ returns-3 c =
 same-length-3 : tie.Need-same-length-3
 same-length-3 c = search needs
 
-returns-4 : tie.Need-returns-4
-returns-4 c =
-    let s = c .before .before .before .before .before .before .before .before .before .before .before .before .before .before .before in
-    let x = c .before .before .before .before .before .before .before .before .rst-target in
-    let e = unreported-answered (s .args .s .now) (s .args .n) (s .args .scratch .now) (x .last .1 .0) (x .result) _ (s .pre .0) (x .ensures .0) (x .ensures .1 .0) (c .before .before .before .before .enum-told2 .given .1) in
-    (unreported-none (s .args .s .now) (s .args .n) (e .1), (front-kept (s .args .n) (putMid (s .args .n) (length (s .args .scratch .now) - s .args .n) (s .args .scratch .now) (x .last .1 .0)) (c .before .before .learnt .last .1 .1 .0) (omega (arith, s .pre .0, c .before .before .before .before .before .before .before .scratch .given)) ∙ front-kept (s .args .n) (s .args .scratch .now) (x .last .1 .0) (omega (arith, s .pre .0)), learnt-free _ _ (no-block (drop (s .args .n) (s .args .s .now)) (e .0) (e .1)) (c .before .before .learnt .ensures .1)))
+returns-3 : tie.Need-returns-3
+returns-3 c = let s = c .before .before .before .before .before .before .before .before .before .before .before .before in
+    let x = c .before .before .before .before .rst-target in
+    let e = unreported-answered (s .args .s .now) (s .args .n) (s .args .scratch .now) (x .last .1 .0) (x .result) _ (s .pre .0) (x .ensures .0) (x .ensures .1 .0) (c .enum-told2 .given .1) in
+    (unreported-none (s .args .s .now) (s .args .n) (e .1), (front-kept (s .args .n) (s .args .scratch .now) (x .last .1 .0) (omega (arith, s .pre .0)), λ h. no-block (drop (s .args .n) (s .args .s .now)) (e .0) (e .1)))
 
 same-length-4 : tie.Need-same-length-4
 same-length-4 c = search needs
 
-returns-5 : tie.Need-returns-5
-returns-5 c =
-    let s = c .before .before .before .before .before .before .before .before .before .before .before in
+returns-4 : tie.Need-returns-4
+returns-4 c = let s = c .before .before .before .before .before .before .before .before .before .before .before .before in
     let x = c .before .before .before .before .rst-target in
     let e = unreported-answered (s .args .s .now) (s .args .n) (s .args .scratch .now) (x .last .1 .0) (x .result) _ (s .pre .0) (x .ensures .0) (x .ensures .1 .0) (c .enum-told3 .given .1) in
     absurd (label2label-room _ (e .0))
+
+returns-5 : tie.Need-returns-5
+returns-5 c = let s = c .before .before .before .before .before .args in
+    let f = c .before .may-begin .ensures (c .if1 .left) in
+    (no-block-unreported (s .s .now) (s .n) f, (refl, λ h. f))
 
 pub with-unreported-spec : {M : Type 1} → statement M
 with-unreported-spec =
     tie.close
     (tie.spec
-    is-known-requires
-    sub-t7
-    sub-t8
-    returns
+    may-begin-requires
     sub-rst-target
     part-rst-target-start
     part-rst-target-end
@@ -147,17 +110,13 @@ with-unreported-spec =
     enum-known-m
     add-t19
     enum-told-2
-    sub-learnt
-    part-learnt-start
-    part-learnt-end
-    learnt-requires
-    add-t25
     enum-told-3
     same-length
-    returns-2
+    returns
     same-length-2
-    returns-3
+    returns-2
     same-length-3
-    returns-4
+    returns-3
     same-length-4
+    returns-4
     returns-5)

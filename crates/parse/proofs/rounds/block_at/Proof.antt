@@ -1,11 +1,9 @@
--- `rounds::block_at` meets its contract: at a start it is what `block` finds, if it is not known that there is none; elsewhere there is
--- none.
+-- `rounds::block_at` meets its contract: it is what `block` finds, if it is to be read.
 -- Assumes nothing.
 use mathlib.Core.Path.{sym, ap, _∙_}
 use mathlib.Core.List.{List}
 use mathlib.Core.Bool.{Bool}
 use Prim.Native.Nat.{ℕ}
-use native.Mathlib.Nat.{le-refl}
 use lib.ListN.{drop}
 use Rattle.rst_bytes.proofs.Lists.{part-from}
 use Rattle.parse.specs.Link.{behind}
@@ -14,13 +12,6 @@ use Rattle.parse.specs.Scan.{blockAt}
 use borrow.Author.Needs.{needs}
 use Rattle.parse.proofs.rounds.block_at.Statement.{statement}
 use Rattle.parse.proofs.rounds.block_at.Tie as tie
-
-returns : tie.Need-returns
-returns c =
-    let w = c .before .before .before .before .args in (
-      sym (ap (behind (w .i)) (ap (λ (b : Bool). blockAt rst b (drop (w .i) (w .s .now))) (c .before .if1 .taken) ∙ c .before .before .before .before .pre .1 (w .i) (le-refl (w .i)) (c .if2 .taken))),
-      tt,
-    )
 
 sub-block : tie.Need-sub-block
 sub-block c = search needs
@@ -37,27 +28,25 @@ block-requires c κs = search needs
 same-length : tie.Need-same-length
 same-length c = search needs
 
-returns-2 : tie.Need-returns-2
-returns-2 c =
-    let w = c .before .before .before .before .before .before .before .before .before .args in (
-      c .before .before .block .ensures .0
-          ∙ ap (λ (l : List ℕ). behind (w .i) (tried (rst .blocks) l)) (part-from (w .s .now) (w .i))
-          ∙ ap (λ (b : Bool). behind (w .i) (blockAt rst b (drop (w .i) (w .s .now)))) (sym (c .before .before .before .before .before .before .if1 .taken)),
-      c .before .before .block .ensures .1,
-    )
+returns : tie.Need-returns
+returns c = let w = c .before .before .before .before .before .before .before .before .args in (
+  c .before .before .block .ensures .0
+      ∙ ap (λ (l : List ℕ). behind (w .i) (tried (rst .blocks) l)) (part-from (w .s .now) (w .i))
+      ∙ ap (λ (b : Bool). behind (w .i) (blockAt rst b (drop (w .i) (w .s .now)))) (sym (c .before .before .before .before .before .if1 .taken)),
+  c .before .before .block .ensures .1,
+)
 
-returns-3 : tie.Need-returns-3
-returns-3 c = search needs
+returns-2 : tie.Need-returns-2
+returns-2 c = search needs
 
 pub block-at-spec : {M : Type 1} → statement M
 block-at-spec =
     tie.close
     (tie.spec
-    returns
     sub-block
     part-block-start
     part-block-end
     block-requires
     same-length
-    returns-2
-    returns-3)
+    returns
+    returns-2)

@@ -8,9 +8,8 @@ use Rattle.rst_bytes.proofs.Lists.{part-from}
 use Rattle.parse.specs.Link.{behind}
 use Rattle.parse.specs.Forms.{tried, rst}
 use Rattle.parse.specs.Scan.{followed}
-use Rattle.parse.proofs.UnfollowedLaws.{unfollowed-part, part-room}
+use Rattle.parse.proofs.BarredLaws.{told-part, part-room}
 use Rattle.parse.proofs.RoundLaws.{inline-embedded, inline-reference, inline-room}
-use native.Mathlib.Omega.{arith}
 use borrow.Author.Needs.{needs}
 use Rattle.parse.proofs.rounds.inline_at.Statement.{statement}
 use Rattle.parse.proofs.rounds.inline_at.Tie as tie
@@ -24,13 +23,10 @@ part-embedded-start c = search needs
 part-embedded-end : tie.Need-part-embedded-end
 part-embedded-end c = search needs
 
-place-from-requires : tie.Need-place-from-requires
-place-from-requires c κs = search needs
-
 embedded-requires : tie.Need-embedded-requires
 embedded-requires c κs =
     let w = c .before .before .before .before .before in
-    (part-room (w .args .i) (w .args .s .now) (w .args .scratch .now) (w .pre .0 .1), unfollowed-part (w .args .s .now) _ (w .args .i) (w .args .i) (w .args .unfollowed) _ (w .pre .1) (omega arith) (part-from (w .args .s .now) (w .args .i)) (c .place-from .ensures))
+    (part-room (w .args .i) (w .args .s .now) (w .args .scratch .now) (w .pre .0 .1), told-part (w .args .marked) (w .args .marks .now) (w .args .s .now) (w .pre .1) (w .args .i) _ (part-from (w .args .s .now) (w .args .i)))
 
 enum-told : tie.Need-enum-told
 enum-told c = search needs
@@ -81,7 +77,6 @@ inline-at-spec =
     sub-embedded
     part-embedded-start
     part-embedded-end
-    place-from-requires
     embedded-requires
     enum-told
     same-length

@@ -10,9 +10,8 @@ use Rattle.rst_bytes.proofs.Lists.{part-from}
 use Rattle.parse.specs.Link.{behind}
 use Rattle.parse.specs.Forms.{tried, rst}
 use Rattle.parse.specs.Scan.{referenceAt, followed}
-use Rattle.parse.proofs.UnfollowedLaws.{unfollowed-part, part-room}
+use Rattle.parse.proofs.BarredLaws.{told-part, part-room}
 use Rattle.parse.proofs.RoundLaws.{reference-opened, reference-plain}
-use native.Mathlib.Omega.{arith}
 use borrow.Author.Needs.{needs}
 use Rattle.parse.proofs.rounds.reference_at.Statement.{statement}
 use Rattle.parse.proofs.rounds.reference_at.Tie as tie
@@ -35,13 +34,10 @@ part-reference-start c = search needs
 part-reference-end : tie.Need-part-reference-end
 part-reference-end c = search needs
 
-place-from-requires : tie.Need-place-from-requires
-place-from-requires c κs = search needs
-
 reference-requires : tie.Need-reference-requires
 reference-requires c κs =
     let w = c .before .before .before .before .before .before .before .before .before in
-    (part-room (w .args .i + 1) (w .args .s .now) (w .args .scratch .now) (w .pre .0 .1), unfollowed-part (w .args .s .now) _ (w .args .i) (w .args .i + 1) (w .args .unfollowed) _ (w .pre .1) (omega arith) (part-from (w .args .s .now) (w .args .i + 1)) (c .place-from .ensures))
+    (part-room (w .args .i + 1) (w .args .s .now) (w .args .scratch .now) (w .pre .0 .1), told-part (w .args .marked) (w .args .marks .now) (w .args .s .now) (w .pre .1) (w .args .i + 1) _ (part-from (w .args .s .now) (w .args .i + 1)))
 
 same-length : tie.Need-same-length
 same-length c = search needs
@@ -51,8 +47,8 @@ returns c =
     let w = c .before .before .before .before .before .before .before .before .before .before .before .before .args in (
       c .before .before .reference .ensures .0
           ∙ ap (λ (l : List ℕ). behind (w .i + 1) (followed rst l (tried (rst .references) l))) (part-from (w .s .now) (w .i + 1))
-          ∙ reference-opened (w .s .now) (w .i) (c .before .before .before .before .before .before .before .before .before .before .before .before .pre .0 .0) (sym (c .before .before .before .before .before .before .before .is-opening .ensures) ∙ c .before .before .before .before .before .before .if2 .taken)
-          ∙ ap (λ (b : Bool). behind (w .i) (followed rst (drop (w .i) (w .s .now)) (referenceAt rst b (drop (w .i) (w .s .now))))) (sym (c .before .before .before .before .before .before .before .before .before .if1 .taken)),
+          ∙ reference-opened (w .s .now) (w .i) (c .before .before .before .before .before .before .before .before .before .before .before .before .pre .0 .0) (sym (c .before .before .before .before .before .before .is-opening .ensures) ∙ c .before .before .before .before .before .if2 .taken)
+          ∙ ap (λ (b : Bool). behind (w .i) (followed rst (drop (w .i) (w .s .now)) (referenceAt rst b (drop (w .i) (w .s .now))))) (sym (c .before .before .before .before .before .before .before .before .if1 .taken)),
       (c .before .before .reference .ensures .1 .0, c .before .before .reference .ensures .1 .1 (w .s .now) (part-from (w .s .now) (w .i + 1))),
     )
 
@@ -65,13 +61,10 @@ part-reference-start-2 c = search needs
 part-reference-end-2 : tie.Need-part-reference-end-2
 part-reference-end-2 c = search needs
 
-place-from-requires-2 : tie.Need-place-from-requires-2
-place-from-requires-2 c κs = search needs
-
 reference-requires-2 : tie.Need-reference-requires-2
 reference-requires-2 c κs =
     let w = c .before .before .before .before .before .before .before .before .before in
-    (part-room (w .args .i) (w .args .s .now) (w .args .scratch .now) (w .pre .0 .1), unfollowed-part (w .args .s .now) _ (w .args .i) (w .args .i) (w .args .unfollowed) _ (w .pre .1) (omega arith) (part-from (w .args .s .now) (w .args .i)) (c .place-from2 .ensures))
+    (part-room (w .args .i) (w .args .s .now) (w .args .scratch .now) (w .pre .0 .1), told-part (w .args .marked) (w .args .marks .now) (w .args .s .now) (w .pre .1) (w .args .i) _ (part-from (w .args .s .now) (w .args .i)))
 
 same-length-2 : tie.Need-same-length-2
 same-length-2 c = search needs
@@ -81,8 +74,8 @@ returns-2 c =
     let w = c .before .before .before .before .before .before .before .before .before .before .before .before .args in (
       c .before .before .reference2 .ensures .0
           ∙ ap (λ (l : List ℕ). behind (w .i) (followed rst l (tried (rst .references) l))) (part-from (w .s .now) (w .i))
-          ∙ reference-plain (w .s .now) (w .i) (c .before .before .before .before .before .before .before .before .before .before .before .before .pre .0 .0) (sym (c .before .before .before .before .before .before .before .is-opening .ensures) ∙ c .before .before .before .before .before .before .if2 .left)
-          ∙ ap (λ (b : Bool). behind (w .i) (followed rst (drop (w .i) (w .s .now)) (referenceAt rst b (drop (w .i) (w .s .now))))) (sym (c .before .before .before .before .before .before .before .before .before .if1 .taken)),
+          ∙ reference-plain (w .s .now) (w .i) (c .before .before .before .before .before .before .before .before .before .before .before .before .pre .0 .0) (sym (c .before .before .before .before .before .before .is-opening .ensures) ∙ c .before .before .before .before .before .if2 .left)
+          ∙ ap (λ (b : Bool). behind (w .i) (followed rst (drop (w .i) (w .s .now)) (referenceAt rst b (drop (w .i) (w .s .now))))) (sym (c .before .before .before .before .before .before .before .before .if1 .taken)),
       (c .before .before .reference2 .ensures .1 .0, c .before .before .reference2 .ensures .1 .1 (w .s .now) (part-from (w .s .now) (w .i))),
     )
 
@@ -99,14 +92,12 @@ reference-at-spec =
     sub-reference
     part-reference-start
     part-reference-end
-    place-from-requires
     reference-requires
     same-length
     returns
     sub-reference-2
     part-reference-start-2
     part-reference-end-2
-    place-from-requires-2
     reference-requires-2
     same-length-2
     returns-2

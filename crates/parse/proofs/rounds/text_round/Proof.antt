@@ -12,14 +12,14 @@ use Rattle.parse.proofs.rounds.text_round.Tie as tie
 
 returns : tie.Need-returns
 returns c =
-    let w = c .before .before .before .args in
+    let w = c .before .before .before .before .args in
     (text-end (w .spaced) (w .s .now) (w .i) (c .if1 .taken), (tt, refl))
 
 may-embed-requires : tie.Need-may-embed-requires
-may-embed-requires c κs = (c .if1 .left, c .before .before .before .pre .1 .1)
+may-embed-requires c κs = (c .if1 .left, c .before .before .before .before .pre .1 .1)
 
 backtick-round-requires : tie.Need-backtick-round-requires
-backtick-round-requires c κs = ((c .before .before .before .if1 .left, c .before .before .before .before .before .before .pre .0 .1), (c .before .before .may-embed .ensures .0 (c .before .if2 .taken), c .before .before .before .before .before .before .pre .1))
+backtick-round-requires c κs = ((c .before .before .before .if1 .left, c .before .before .before .before .before .before .before .pre .0 .1), (c .before .before .may-embed .ensures .0 (c .before .if2 .taken), c .before .before .before .before .before .before .before .pre .1))
 
 same-length : tie.Need-same-length
 same-length c = search needs
@@ -47,7 +47,7 @@ same-length-2 c = search needs
 
 returns-3 : tie.Need-returns-3
 returns-3 c =
-    let w = c .before .before .before .before .before .before .before .before .before .before .before .args in
+    let w = c .before .before .before .before .before .before .before .before .before .before .before .before .args in
     let h = c .before .before .before .before .before .before .before .before .if1 .left in
     let r = c .before .before .before .before .reference-at in (
       text-found (w .i) (drop (w .i) (w .s .now)) (w .spaced) (r .result .scan) (r .last .1 .1 .0) (r .ensures .0 ∙ ap (behind (w .i)) (sym (unlinked-inline (w .spaced) (w .s .now) (w .i) h (c .before .before .before .before .before .before .before .may-embed .ensures .1 (c .before .before .before .before .before .before .if2 .left))))) _ (c .enum-told .given .1),
@@ -59,10 +59,10 @@ same-length-3 c = search needs
 
 returns-4 : tie.Need-returns-4
 returns-4 c =
-    let w = c .before .before .before .before .before .before .before .before .before .before .before .before .args in
+    let w = c .before .before .before .before .before .before .before .before .before .before .before .before .before .args in
     let h = c .before .before .before .before .before .before .before .before .before .if1 .left in (
       text-passed (w .i) (drop (w .i) (w .s .now)) (w .spaced) _ (is-scanned (c .before .enum-told2 .given .1) (c .before .before .before .before .before .reference-at .last .1 .1 .0) ∙ c .before .before .before .before .before .reference-at .ensures .0 ∙ ap (behind (w .i)) (sym (unlinked-inline (w .spaced) (w .s .now) (w .i) h (c .before .before .before .before .before .before .before .before .may-embed .ensures .1 (c .before .before .before .before .before .before .before .if2 .left))))) (c .passed .ensures),
-      (tt, holds-later (w .s .now) (w .i) _ (w .known) (passed-le (w .s .now) (w .i) _ h (c .passed .ensures)) (c .before .before .before .before .before .before .before .before .before .before .before .before .pre .1)),
+      (tt, holds-later (w .s .now) (w .marks .now) (w .i) _ (w .known) (passed-le (w .s .now) (w .i) _ h (c .passed .ensures)) (c .before .before .before .before .before .before .before .before .before .before .before .before .before .pre .1)),
     )
 
 same-length-4 : tie.Need-same-length-4
@@ -70,7 +70,7 @@ same-length-4 c = search needs
 
 returns-5 : tie.Need-returns-5
 returns-5 c =
-    let w = c .before .before .before .before .before .before .before .before .before .before .before .args in
+    let w = c .before .before .before .before .before .before .before .before .before .before .before .before .args in
     let h = c .before .before .before .before .before .before .before .before .if1 .left in
     let r = c .before .before .before .before .reference-at in (
       text-room (w .i) (drop (w .i) (w .s .now)) (w .spaced) (r .result .scan) (r .last .1 .1 .0) (r .ensures .0 ∙ ap (behind (w .i)) (sym (unlinked-inline (w .spaced) (w .s .now) (w .i) h (c .before .before .before .before .before .before .before .may-embed .ensures .1 (c .before .before .before .before .before .before .if2 .left))))) (c .enum-told3 .given .1),

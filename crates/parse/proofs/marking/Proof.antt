@@ -1,0 +1,54 @@
+-- `marking` meets its contract: marks are written only where it is not told that there are marks. Then places at which no target starts
+-- are marked, and no block begins there; or it is still not told.
+-- Assumes nothing.
+use mathlib.Core.Path.{sym, _∙_}
+use mathlib.Core.Bool.{true≢false}
+use Rattle.parse.proofs.BarredLaws.{marks-barred}
+use borrow.Author.Needs.{needs}
+use Rattle.parse.proofs.marking.Statement.{statement}
+use Rattle.parse.proofs.marking.Tie as tie
+
+returns : tie.Need-returns
+returns c = search needs
+
+returns-2 : tie.Need-returns-2
+returns-2 c = search needs
+
+returns-3 : tie.Need-returns-3
+returns-3 c = search needs
+
+mark-requires : tie.Need-mark-requires
+mark-requires c κs = search needs
+
+same-length : tie.Need-same-length
+same-length c = search needs
+
+same-length-2 : tie.Need-same-length-2
+same-length-2 c = search needs
+
+returns-4 : tie.Need-returns-4
+returns-4 c = λ i h. (h .0, h .1, h .2, λ e. marks-barred (c .before .before .before .before .before .mark .last .1 .0) _ (c .before .before .before .before .before .mark .ensures e))
+
+same-length-3 : tie.Need-same-length-3
+same-length-3 c = search needs
+
+same-length-4 : tie.Need-same-length-4
+same-length-4 c = search needs
+
+returns-5 : tie.Need-returns-5
+returns-5 c = λ i h. (h .0, h .1, h .2, λ e. marks-barred (c .before .before .before .before .before .mark .last .1 .0) _ (c .before .before .before .before .before .mark .ensures e))
+
+pub marking-spec : {M : Type 1} → statement M
+marking-spec =
+    tie.close
+    (tie.spec
+    returns
+    returns-2
+    returns-3
+    mark-requires
+    same-length
+    same-length-2
+    returns-4
+    same-length-3
+    same-length-4
+    returns-5)

@@ -1,0 +1,2 @@
+-- The laws of the marks.
+pub mod MarksLaws
