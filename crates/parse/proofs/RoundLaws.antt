@@ -313,8 +313,8 @@ module _ (start : Bool) (s : List ℕ) (i : ℕ) (h : i < length s) (r : Step) (
   step-is : (x : Step) → r ≡ x → later i (roundOf rst start (drop i s)) ≡ stepOf x d
   step-is x f = sym e ∙ ap (λ (y : Step). stepOf y d) f
 
-  pub step-stops : (x : Scan) (free : ℕ) → r ≡ Stops x free → scannedOf x d ≡ rounds rst 0 start i (drop i s)
-  step-stops x free f = sym (later-stops rst rst-consuming start s i h (scannedOf x d) (step-is (Stops x free) f))
+  pub step-stops : (x : Scan) (free failed : ℕ) → r ≡ Stops x free failed → scannedOf x d ≡ rounds rst 0 start i (drop i s)
+  step-stops x free failed f = sym (later-stops rst rst-consuming start s i h (scannedOf x d) (step-is (Stops x free failed) f))
 
   pub step-passes : (j : ℕ) (known : Known) → r ≡ Passes j known → (rounds rst 0 start i (drop i s) ≡ rounds rst 0 false j (drop j s)) × (i < j) × (j ≤ length s)
   step-passes j known f = later-passes rst rst-consuming start s i h j (step-is (Passes j known) f)

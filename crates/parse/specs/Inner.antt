@@ -133,16 +133,16 @@ NextHolds s marks r = TrueBehind s marks (r .known) (r .scan)
 
 -- what a step says, with the scratch as it was left: places count from the front of the text
 abbrev pub stepOf : Step → List ℕ → Round
-stepOf (Stops x free) scratch = ends (scannedOf x scratch)
+stepOf (Stops x free failed) scratch = ends (scannedOf x scratch)
 stepOf (Passes next known) scratch = passes next
 
 abbrev pub StepEnds : Step → Type 0
-StepEnds (Stops x free) = Ends x
+StepEnds (Stops x free failed) = Ends x
 StepEnds (Passes next known) = Unit {0}
 
 -- what is told of blocks behind the link, or known from the next place on, is true
 abbrev pub StepHolds : List ℕ → List ℕ → Step → Type 0
-StepHolds s marks (Stops x free) = FreeBehind s free x
+StepHolds s marks (Stops x free failed) = FreeBehind s free x
 StepHolds s marks (Passes next known) = Holds next known marks s
 
 -- from place i on and before place j of s no byte is _ or a backtick

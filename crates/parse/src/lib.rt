@@ -131,7 +131,7 @@ pub fn next_link(s: &[u8], scratch: &mut [u8], marks: &mut [u8], known: Known) -
     ensures known { λ r. ⌜ NextHolds (now (s .entry)) (now (marks .exit)) r ⌝ }
 {
     if scratch.len() < s.len() {
-        return next_of(s, Scan::NoRoom, known, 0);
+        return next_of(s, Scan::NoRoom, known, 0, 0);
     }
     let mut i = 0;
     let mut input_start = true;
@@ -149,8 +149,8 @@ pub fn next_link(s: &[u8], scratch: &mut [u8], marks: &mut [u8], known: Known) -
         }
         known = marking(s, scratch, marks, known);
         match round(s, i, scratch, marks, input_start, known) {
-            Step::Stops(x, free) => {
-                return next_of(s, x, known, free);
+            Step::Stops(x, free, failed) => {
+                return next_of(s, x, known, free, failed);
             }
             Step::Passes(next, learnt) => {
                 i = next;
@@ -159,7 +159,7 @@ pub fn next_link(s: &[u8], scratch: &mut [u8], marks: &mut [u8], known: Known) -
             }
         }
     }
-    next_of(s, Scan::NotFound, known, 0)
+    next_of(s, Scan::NotFound, known, 0, 0)
 }
 
 // The first link of the document from a place on; its strings are written to the front of the two buffers, or all of this is

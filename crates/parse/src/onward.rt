@@ -43,14 +43,14 @@ pub fn counted(failed: usize) -> usize
     8
 }
 
-// What is known, with places counted from place n on, and with what is told of blocks there.
-fn known_from(known: Known, n: usize, free: usize) -> Known
+// What is known, with places counted from place n on, and with what is told of blocks there. So many were read before that are none.
+fn known_from(known: Known, n: usize, free: usize, failed: usize) -> Known
     ensures { λ r. ⌜ r ≡ knownFrom n free (r .failed) known ⌝ }
 {
     let shut = place_from(known.shut, n);
     let barren = place_from(known.barren, n);
     let marked = known.marked;
-    let mut failed = known.failed;
+    let mut failed = failed;
     if free == 2 {
         failed = counted(failed);
     }
@@ -73,7 +73,7 @@ fn known_from(known: Known, n: usize, free: usize) -> Known
 }
 
 // A scan's answer, and what is known from behind the link that it found, with whatever marks.
-pub fn next_of(s: &[u8], x: Scan, known: Known, free: usize) -> Next
+pub fn next_of(s: &[u8], x: Scan, known: Known, free: usize, failed: usize) -> Next
     requires within { ⌜ EndsWithin (now s) x ⌝ }
     requires free { ⌜ FreeBehind (now s) free x ⌝ }
     ensures scan { λ r. ⌜ r .scan ≡ x ⌝ }
@@ -82,7 +82,7 @@ pub fn next_of(s: &[u8], x: Scan, known: Known, free: usize) -> Next
     match x {
         Scan::Found(link) => {
             let n = end_of(link, s);
-            let known = known_from(known, n, free);
+            let known = known_from(known, n, free, failed);
             Next { scan: x, known }
         }
         Scan::NotFound => Next { scan: x, known },

@@ -40,10 +40,10 @@ ghost use Rattle.parse.specs.Scan.{
 };
 ghost use Rattle.parse.specs.Inner.{Shut, Barren, Told, Holds, FreeBehind, stepOf, StepEnds, StepHolds};
 
-// A round's answer: the scan's, and what is told of blocks behind the link; or the place where the next round starts, and what is known
-// from there on.
+// A round's answer: the scan's, what is told of blocks behind the link, and how many were read that are none; or the place where the next
+// round starts, and what is known from there on.
 pub enum Step {
-    Stops(Scan, usize),
+    Stops(Scan, usize, usize),
     Passes(usize, Known),
 }
 
@@ -278,7 +278,7 @@ fn backtick_round(
     let found = inline_at(s, i, scratch, marks, spaced, known.marked);
     let scan = found.scan;
     match scan {
-        Scan::Found(_) => Step::Stops(scan, found.free),
+        Scan::Found(_) => Step::Stops(scan, found.free, known.failed),
         Scan::NotFound => {
             let n = barren(&s[i..]);
             let known = Known {
@@ -290,7 +290,7 @@ fn backtick_round(
             };
             Step::Passes(passed(s, i), known)
         }
-        Scan::NoRoom => Step::Stops(scan, found.free),
+        Scan::NoRoom => Step::Stops(scan, found.free, known.failed),
     }
 }
 
@@ -310,7 +310,7 @@ fn text_round(
     ensures known { λ r. ⌜ StepHolds (now (s .entry)) (now (marks .entry)) r ⌝ }
 {
     if s.len() <= i {
-        return Step::Stops(Scan::NotFound, 0);
+        return Step::Stops(Scan::NotFound, 0, 0);
     }
     if may_embed(s, i, known.barren) {
         return backtick_round(s, i, scratch, marks, spaced, known);
@@ -318,9 +318,9 @@ fn text_round(
     let found = reference_at(s, i, scratch, marks, spaced, known.marked);
     let scan = found.scan;
     match scan {
-        Scan::Found(_) => Step::Stops(scan, found.free),
+        Scan::Found(_) => Step::Stops(scan, found.free, known.failed),
         Scan::NotFound => Step::Passes(passed(s, i), known),
-        Scan::NoRoom => Step::Stops(scan, found.free),
+        Scan::NoRoom => Step::Stops(scan, found.free, known.failed),
     }
 }
 
@@ -345,11 +345,11 @@ pub fn round(
     let read = is_read(s, a, line, marks, known);
     match block_at(s, a, scratch, read) {
         Scan::Found(x) => {
-            return Step::Stops(Scan::Found(x), 0);
+            return Step::Stops(Scan::Found(x), 0, known.failed);
         }
         Scan::NotFound => {}
         Scan::NoRoom => {
-            return Step::Stops(Scan::NoRoom, 0);
+            return Step::Stops(Scan::NoRoom, 0, 0);
         }
     }
     let m = space0(&s[a..]);

@@ -5,7 +5,7 @@ use mathlib.Core.Path.{_≡_, ap, _∙_}
 use mathlib.Core.List.{List}
 use mathlib.Core.Logic.{⊎-elim}
 use native.Mathlib.Omega.{arith}
-use lib.ListN.{length, set, getD, length-set, List·getD-eq-default}
+use lib.ListN.{length, set, getD, List·getD-eq-default}
 use lib.Seq.{getD-set-same, getD-set-other}
 use Rattle.rst_bytes.proofs.TestLaws.{lt-or-le}
 use Rattle.targetless.specs.Targetless.{Marks}

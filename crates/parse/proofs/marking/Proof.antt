@@ -1,8 +1,6 @@
 -- `marking` meets its contract: marks are written only where it is not told that there are marks. Then places at which no target starts
 -- are marked, and no block begins there; or it is still not told.
 -- Assumes nothing.
-use mathlib.Core.Path.{sym, _∙_}
-use mathlib.Core.Bool.{true≢false}
 use Rattle.parse.proofs.BarredLaws.{marks-barred}
 use borrow.Author.Needs.{needs}
 use Rattle.parse.proofs.marking.Statement.{statement}

@@ -67,7 +67,7 @@ next-of-requires-2 c κs =
     let s = c .before .before .before .before .before .before .before .before .before .before .before .before .before .before .before .before .before .before .before .before .before .before .before .before .args .s .now in
     let l = c .before .before .before .before .before .before .before .before .before .before .before .before .before .before .before .before .before .before .before .loop in
     let r = c .before .before .before .before .before .round in
-    (found-within s (l .i) (l .input-start) (r .last .1 .1 .0) (c .before .x .given .0 .0) (l .inv .0) (step-stops (l .input-start) s (l .i) (c .before .before .before .before .before .before .before .before .before .before .before .before .before .before .before .before .before .before .loop-test .taken) (r .result) (r .last .1 .1 .0) (r .ensures .0) _ _ (c .before .x .given .1)), subst (StepHolds s (c .before .before .before .before .before .before .before .before .before .before .before .before .marking .last .1 .1 .0)) (c .before .x .given .1) (r .ensures .1 .1))
+    (found-within s (l .i) (l .input-start) (r .last .1 .1 .0) (c .before .x .given .0 .0) (l .inv .0) (step-stops (l .input-start) s (l .i) (c .before .before .before .before .before .before .before .before .before .before .before .before .before .before .before .before .before .before .loop-test .taken) (r .result) (r .last .1 .1 .0) (r .ensures .0) _ _ _ (c .before .x .given .1)), subst (StepHolds s (c .before .before .before .before .before .before .before .before .before .before .before .before .marking .last .1 .1 .0)) (c .before .x .given .1) (r .ensures .1 .1))
 
 same-length : tie.Need-same-length Inv-loop μ-loop
 same-length c = omega (arith, c .before .before .before .before .before .before .before .before .before .before .before .before .before .before .before .before .before .before .before .before .loop .inv .1, c .before .before .before .before .before .before .before .before .before .before .before .before .scratch .given, c .before .before .before .before .before .scratch2 .given)
@@ -81,7 +81,7 @@ returns-2 c =
     let l = c .before .before .before .before .before .before .before .before .before .before .before .before .before .before .before .before .before .before .before .before .loop in
     let r = c .before .before .before .before .before .before .round in
     let a = c .next-of2 .ensures in
-    let e = step-stops (l .input-start) (w .s .now) (l .i) (c .before .before .before .before .before .before .before .before .before .before .before .before .before .before .before .before .before .before .before .loop-test .taken) (r .result) (r .last .1 .1 .0) (r .ensures .0) _ _ (c .before .before .x .given .1) in (
+    let e = step-stops (l .input-start) (w .s .now) (l .i) (c .before .before .before .before .before .before .before .before .before .before .before .before .before .before .before .before .before .before .before .loop-test .taken) (r .result) (r .last .1 .1 .0) (r .ensures .0) _ _ _ (c .before .before .x .given .1) in (
       sym (is-scanned (a .0) (r .last .1 .1 .0)) ∙ e ∙ sym (l .inv .2) ∙ lent-enough (w .s .now) (w .scratch .now) (scanOf (w .s .now)) (c .before .before .before .before .before .before .before .before .before .before .before .before .before .before .before .before .before .before .before .before .before .if1 .left),
       (subst⁻¹ Ends (a .0) (subst StepEnds (c .before .before .x .given .1) (r .ensures .1 .0)), a .1 (c .before .before .before .before .before .before .before .before .before .before .before .before .before .marking .last .1 .1 .0) (found-holds (w .s .now) _ (l .i) (l .input-start) (c .before .before .before .before .before .before .before .before .before .before .before .before .before .marking .result) (r .last .1 .1 .0) (c .before .before .x .given .0 .0) (c .before .before .before .before .before .before .before .before .before .before .before .before .before .marking .ensures _ (l .inv .3)) e)),
     )

@@ -4,7 +4,6 @@ use Prim.Native.Nat.{_-_, _≤_}
 use mathlib.Core.Path.{_≡_, refl, _∙_}
 use native.Mathlib.Omega.{arith}
 use lib.ListN.{length, length-set}
-use borrow.Author.Needs.{needs}
 use Rattle.targetless.proofs.MarksLaws.{Zeroed, zeroed-more, zeroed-marks}
 use Rattle.targetless.proofs.mark.Statement.{statement}
 use Rattle.targetless.proofs.mark.Tie as tie
