@@ -1,6 +1,5 @@
 -- The laws that the layers above use; specs/Lib.antt lists them. The others serve the proofs here.
 pub mod RowsLaws
-pub mod AreasLaws
 pub mod NamesLaws
 pub mod CollectLaws
 pub mod LabelLaws

@@ -21,10 +21,10 @@ use Rattle.rst_bytes.proofs.TestLaws.{by-test, lt-or-le}
 use Rattle.rst_bytes.proofs.LineLaws.{bytes-pass, bytes-stop, bytes-within, bytes-count, multispace-cases}
 use Rattle.restructured_text.specs.Calm.{calm, Parted, Ended}
 use Rattle.restructured_text.proofs.CalmLaws.{calm-drop, calm-text2dest, calm-text-label2dest, calm-text2label, calm-label2label, calm-label2dest}
-use Rattle.parse.specs.Link.{Scanned, found, nothing, behind, orElse}
+use Rattle.parse.specs.Link.{Scanned, nothing, behind, orElse}
 use Rattle.parse.specs.Forms.{alias, destination, anonymous, named, reference, tried, rst}
-use Rattle.parse.specs.Scan.{Round, ends, passes, later, isLf, lfsOf, isOpening, openingOf, referenceAt, blockAt, followed, inlineAt, isStart, isPlain, passedOf, textRound, blankRound, lineRound, roundOf, rounds}
-use Rattle.parse.specs.Inner.{Calm, Lineless, Behind, Edge, Skips}
+use Rattle.parse.specs.Scan.{later, isLf, lfsOf, isOpening, openingOf, referenceAt, blockAt, followed, inlineAt, isStart, isPlain, passedOf, textRound, blankRound, lineRound, roundOf, rounds}
+use Rattle.parse.specs.Inner.{Without, Calm, Lineless, Behind, Edge, Skips}
 use Rattle.parse.proofs.FormsLaws.{tried-next}
 use Rattle.parse.proofs.ScanLaws.{later-stops, later-passes, rounds-end, rst-consuming}
 use Rattle.parse.proofs.RoundLaws.{orGo, round-at, blank-at}
@@ -317,23 +317,16 @@ gap-skips s i j h w q o =
     skips s j (omega (arith, w .0)) (inr (w .0, w .1, w .2, rw (w .3) (or-true (isLf (getD s j 0))))) false i h q (inr (refl, o))
 
 -- The loops of calm.rt, by the code's tests.
-pub calm-none : (i : ℕ) (s : List ℕ) → Calm i i s
-calm-none i s k a b = absurd (omega arith)
+pub without-none : (f : ℕ → Bool) (i : ℕ) (s : List ℕ) → Without f i i s
+without-none f i s k a b = absurd (omega arith)
 
 pub skips-none : (start : Bool) (i : ℕ) (s : List ℕ) → i ≤ length s → Skips start i i s
 skips-none start i s h = (le-refl i, h, λ d. absurd (omega arith))
 
--- one byte more that is no mark
-pub calm-next : (i j : ℕ) (s : List ℕ) → Calm i j s → isStop 0x5F 0x60 (getD s j 0) ≡ false → Calm i (j + 1) s
-calm-next i j s q e k a b =
-    ⊎-elim (λ c. q k a c) (λ c. let z : k ≡ j = omega arith in ap (λ (n : ℕ). isStop 0x5F 0x60 (getD s n 0)) z ∙ e) (lt-or-le k j)
+-- one byte more that does not pass the test
+pub without-next : (f : ℕ → Bool) (i j : ℕ) (s : List ℕ) → Without f i j s → f (getD s j 0) ≡ false → Without f i (j + 1) s
+without-next f i j s q e k a b =
+    ⊎-elim (λ c. q k a c) (λ c. let z : k ≡ j = omega arith in ap (λ (n : ℕ). f (getD s n 0)) z ∙ e) (lt-or-le k j)
 
 pub calm-join : (i j k : ℕ) (s : List ℕ) → Calm i j s → Calm j k s → Calm i k s
 calm-join i j k s q r n a b = ⊎-elim (λ c. q n a c) (λ c. r n c b) (lt-or-le n j)
-
-pub lineless-none : (i : ℕ) (s : List ℕ) → Lineless i i s
-lineless-none i s k a b = absurd (omega arith)
-
-pub lineless-next : (i j : ℕ) (s : List ℕ) → Lineless i j s → isLf (getD s j 0) ≡ false → Lineless i (j + 1) s
-lineless-next i j s q e k a b =
-    ⊎-elim (λ c. q k a c) (λ c. let z : k ≡ j = omega arith in ap (λ (n : ℕ). isLf (getD s n 0)) z ∙ e) (lt-or-le k j)

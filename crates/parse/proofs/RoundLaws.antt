@@ -52,17 +52,17 @@ use Rattle.parse.specs.declared.rounds.Step.the-variants.{Stops, Passes}
 use Rattle.parse.specs.Inner.{stepOf}
 
 -- what stands behind i and then m bytes stands behind both
-pub behind-behind : (i m : ℕ) (x : Scanned) → behind i (behind m x) ≡ behind (i + m) x
+behind-behind : (i m : ℕ) (x : Scanned) → behind i (behind m x) ≡ behind (i + m) x
 behind-behind i m (found k x y a n) = ap (λ (b : ℕ). found k x y b n) (sym (add-assoc i m a))
 behind-behind i m nothing = refl
 behind-behind i m no-room = refl
 
-pub later-later : (i m : ℕ) (r : Round) → later i (later m r) ≡ later (i + m) r
+later-later : (i m : ℕ) (r : Round) → later i (later m r) ≡ later (i + m) r
 later-later i m (ends x) = ap ends (behind-behind i m x)
 later-later i m (passes n) = ap passes (sym (add-assoc i m n))
 
 -- a block that follows a link which stands behind m bytes
-pub followed-behind : (forms : Forms) (s : List ℕ) (m : ℕ) (x : Scanned) → followed forms s (behind m x) ≡ behind m (followed forms (drop m s) x)
+followed-behind : (forms : Forms) (s : List ℕ) (m : ℕ) (x : Scanned) → followed forms s (behind m x) ≡ behind m (followed forms (drop m s) x)
 followed-behind forms s m (found k x y a n) =
     ap (λ (l : List ℕ). found k x y (m + a) (n + consumedOf (tried (forms .unreported) l)))
     (ap (λ (b : ℕ). drop b s) (add-assoc m a n) ∙ sym (drop-drop (a + n) m s))

@@ -145,13 +145,17 @@ abbrev pub StepHolds : List ℕ → List ℕ → Step → Type 0
 StepHolds s marks (Stops x free failed) = FreeBehind s free x
 StepHolds s marks (Passes next known) = Holds next known marks s
 
--- from place i on and before place j of s no byte is _ or a backtick
-abbrev pub Calm : ℕ → ℕ → List ℕ → Type 0
-Calm i j s = (k : ℕ) → i ≤ k → k < j → isStop 0x5F 0x60 (getD s k 0) ≡ false
+-- from place i on and before place j of s no byte passes the test
+abbrev pub Without : (ℕ → Bool) → ℕ → ℕ → List ℕ → Type 0
+Without f i j s = (k : ℕ) → i ≤ k → k < j → f (getD s k 0) ≡ false
 
--- nor LF
+-- none is _ or a backtick
+abbrev pub Calm : ℕ → ℕ → List ℕ → Type 0
+Calm i j s = Without (isStop 0x5F 0x60) i j s
+
+-- none is LF
 abbrev pub Lineless : ℕ → ℕ → List ℕ → Type 0
-Lineless i j s = (k : ℕ) → i ≤ k → k < j → isLf (getD s k 0) ≡ false
+Lineless i j s = Without isLf i j s
 
 -- a byte of that kind stands at place j of s, behind one that (f) passes
 abbrev pub Behind : (ℕ → Bool) → ℕ → List ℕ → Type 0

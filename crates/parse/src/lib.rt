@@ -95,7 +95,7 @@ pub fn take_link(s: &[u8], scratch: &mut [u8]) -> Scan
 
 // Marks the places at which no block begins, if 8 blocks were read that are none and there are marks for the whole text. What was known
 // is known then too.
-fn marking(s: &[u8], scratch: &mut [u8], marks: &mut [u8], known: Known) -> Known
+fn marking(s: &[u8], marks: &mut [u8], known: Known) -> Known
     ensures { λ r. ⌜ ((i : ℕ) → Holds i known (now (marks .entry)) (now (s .entry)) → Holds i r (now (marks .exit)) (now (s .entry))) ⌝ }
 {
     if known.marked {
@@ -107,17 +107,13 @@ fn marking(s: &[u8], scratch: &mut [u8], marks: &mut [u8], known: Known) -> Know
     if marks.len() < s.len() {
         return known;
     }
-    let marked = mark(s, marks, scratch);
-    let mut failed = 0;
-    if marked {
-        failed = 8;
-    }
+    let marked = mark(s, marks);
     Known {
         shut: known.shut,
         barren: known.barren,
         blocks: known.blocks,
         marked,
-        failed,
+        failed: known.failed,
     }
 }
 
@@ -147,7 +143,7 @@ pub fn next_link(s: &[u8], scratch: &mut [u8], marks: &mut [u8], known: Known) -
             input_start = false;
             continue;
         }
-        known = marking(s, scratch, marks, known);
+        known = marking(s, marks, known);
         match round(s, i, scratch, marks, input_start, known) {
             Step::Stops(x, free, failed) => {
                 return next_of(s, x, known, free, failed);

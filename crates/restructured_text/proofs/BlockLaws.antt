@@ -182,25 +182,6 @@ module _ (indent s : List ℕ) (a n : ℕ) (e : furtherOf indent s ≡ Further a
   pub further-le : a + n ≤ length s
   further-le = subst (FurtherIn (length s)) e (further-in indent s) .1
 
--- The text of a further line.
-abbrev FurtherText : List ℕ → Line → Type 0
-FurtherText s (Further a n) = notLineEndingOf (drop a s) ≡ Taken n
-FurtherText s End = Unit {0}
-
-further-text : (indent s : List ℕ) → FurtherText s (furtherOf indent s)
-further-text indent s = go (cutOf indent s) refl
-  where
-    line : (a : ℕ) (y : Part) → notLineEndingOf (drop a s) ≡ y → FurtherText s (lineAt a y)
-    line a (Taken n) f = f
-    line a Refused f = tt
-
-    go : (x : Part) → cutOf indent s ≡ x → FurtherText s (furtherOf indent s)
-    go (Taken a) e = rw (further-some indent s a e) (line a (notLineEndingOf (drop a s)) refl)
-    go Refused e = rw (further-none indent s e) tt
-
-pub further-line-is : (indent s : List ℕ) (a n : ℕ) → furtherOf indent s ≡ Further a n → notLineEndingOf (drop a s) ≡ Taken n
-further-line-is indent s a n e = subst (FurtherText s) e (further-text indent s)
-
 -- The further lines.
 
 -- k more bytes are passed

@@ -10,5 +10,4 @@ pub mod JoinLaws
 pub mod BlockLaws
 pub mod TargetLaws
 pub mod CalmLaws
-pub mod TargetlessLaws
 mod Cases

@@ -39,7 +39,7 @@ use Rattle.restructured_text.specs.declared.block.Block.the-variants.{Jo
 use Rattle.restructured_text.specs.declared.transform.Transformed.the-variants.{Text, Wrong}
 use Rattle.restructured_text.specs.Delimited.{delimitedOf}
 use Rattle.restructured_text.specs.Label.{simpleLabelOf}
-use Rattle.restructured_text.specs.Block.{startOf, furtherOf, linesOf, BlockText, block, no-block, no-scratch, withLines, blockOf, blockIn, lentBlock}
+use Rattle.restructured_text.specs.Block.{startOf, furtherOf, linesOf, BlockText, block, no-block, no-scratch, blockOf, blockIn, lentBlock}
 use Rattle.restructured_text.specs.Transform.{Given, whole, refused, textOf, destinationOf, answerOf, bytesOf, over}
 use Rattle.restructured_text.specs.Strings.{Link, link, none, no-room, part, paired, linked, stringsOf, Ends, lent}
 use Rattle.restructured_text.specs.Target.{plainNameOf, nameOf, labelIn, restOf, isNamed, excluded, behindName, parseLabel2targetOf, namedIn, namedOf, anonymousIn, anonymousOf, anonymousBlockOf, label2targetOf, label2destOf, label2labelOf, startsTarget}
@@ -81,7 +81,7 @@ module _ (s : List ℕ) where
 
 -- what they take lies within the text
 module _ (s : List ℕ) (n : ℕ) where
-  pub quoted-within : quotedIn s ≡ Taken n → n + 5 ≤ length s
+  quoted-within : quotedIn s ≡ Taken n → n + 5 ≤ length s
   quoted-within e = let w = delimited-within (0x5F ∷ 0x60 ∷ []) 0x60 0x60 (0x60 ∷ 0x3A ∷ 0x20 ∷ []) s n e in omega arith
 
   pub plain-within : plainIn s ≡ Taken n → n + 3 ≤ length s
@@ -97,11 +97,11 @@ module _ (label : Bool) (s : List ℕ) where
   unfolding restOf
   rest-all l = rw l
 
-  pub excluded-label : label ≡ true → excluded label s ≡ false
+  excluded-label : label ≡ true → excluded label s ≡ false
   unfolding excluded
   excluded-label l = rw l
 
-  pub excluded-rest : (x : SimpleLabel) → label ≡ false → simpleLabelOf s ≡ x → excluded label s ≡ isNamed x
+  excluded-rest : (x : SimpleLabel) → label ≡ false → simpleLabelOf s ≡ x → excluded label s ≡ isNamed x
   unfolding excluded
   excluded-rest x l e = rw (l, e)
 
@@ -219,7 +219,7 @@ module _ (label : Bool) (text : List ℕ) (n : ℕ) where
 
 -- That of a `__ ` block.
 module _ (label : Bool) (text : List ℕ) (n : ℕ) where
-  pub anonymous-none : restOf label text ≡ NoTarget → anonymousOf label text n ≡ none
+  anonymous-none : restOf label text ≡ NoTarget → anonymousOf label text n ≡ none
   unfolding anonymousOf
   anonymous-none e = simp (e, anonymousIn)
 
@@ -238,7 +238,7 @@ module _ (label : Bool) (d : List ℕ) (len n : ℕ) (h : (len ≤ n) × (n ≤ 
   named-text : b .start + b .len ≤ length (take len d)
   named-text = let w = subst (Apart (length (take len d))) e (parse-apart label (take len d)) in omega (arith, w .1, w .2)
 
-  pub named-apart : (a .start + a .len ≤ b .start) × (b .start + b .len ≤ n) × (n ≤ length d)
+  named-apart : (a .start + a .len ≤ b .start) × (b .start + b .len ≤ n) × (n ≤ length d)
   named-apart =
       (subst (Apart (length (take len d))) e (parse-apart label (take len d)) .0, omega (arith, named-text, length-take len d), h .1)
 
@@ -258,7 +258,7 @@ module _ (label : Bool) (d : List ℕ) (len n : ℕ) (h : (len < n) × (n ≤ le
   anonymous-text : t .start + t .len ≤ length (take len d)
   anonymous-text = subst (RestIn (length (take len d))) e (rest-in label (take len d))
 
-  pub anonymous-within : t .start + t .len ≤ len
+  anonymous-within : t .start + t .len ≤ len
   anonymous-within = omega (arith, anonymous-text, length-take len d)
 
   -- it is not excluded: the transform left y in its place
@@ -270,7 +270,7 @@ module _ (label : Bool) (d : List ℕ) (len n : ℕ) (h : (len < n) × (n ≤ le
         ∙ ap (λ (x : List ℕ). paired (whole (0x5F ∷ [])) (destinationOf x) n) (part-front (t .start) (t .len) len d anonymous-within ∙ sym (part-reach t d))
 
     -- it was refused
-    pub anonymous-wrong : Wrong ≡ answerOf (destinationOf (midOf (t .start) (reach t) d)) → anonymousOf label (take len d) n ≡ none
+    anonymous-wrong : Wrong ≡ answerOf (destinationOf (midOf (t .start) (reach t) d)) → anonymousOf label (take len d) n ≡ none
     anonymous-wrong g = anonymous-part ∙ ap (λ (x : Given). paired (whole (0x5F ∷ [])) x n) (answer-refused (destinationOf (midOf (t .start) (reach t) d)) g)
 
     -- it gave a string; the name was put behind the text
@@ -278,7 +278,7 @@ module _ (label : Bool) (d : List ℕ) (len n : ℕ) (h : (len < n) × (n ≤ le
       abbrev left : List ℕ
       left = set (putMid (t .start) (reach t) d y) len 0x5F
 
-      pub anonymous-found :
+      anonymous-found :
           (j : ℕ) → Text j ≡ answerOf (destinationOf (midOf (t .start) (reach t) d)) → y ≡ over (bytesOf (destinationOf (midOf (t .start) (reach t) d))) z
           → (link (take 1 (drop len left)) (take j (drop (t .start) left)) n ≡ anonymousOf label (take len d) n) × ((len + 1 ≤ n) × (t .start + j ≤ n))
       anonymous-found j g i =
@@ -327,11 +327,7 @@ either-none F true e f false = f
 either-none F false e f true = f
 either-none F false e f false = e
 
--- it stands within the rest
-pub raw-within : (s : List ℕ) (r : Raw) → r ≡ rawOf s → r .start + r .len ≤ length s
-raw-within s r i = subst (RestIn (length s)) (raw-rest s r i) (rest-in (r .alias) s)
-
--- and is all of it, if it is no alias's
+-- it is all of the rest, if it is no alias's
 pub raw-all : (s : List ℕ) (r : Raw) → r ≡ rawOf s → r .alias ≡ false → take (r .len) (drop (r .start) s) ≡ s
 raw-all s r i f = go (simpleLabelOf s) refl
   where

@@ -15,7 +15,6 @@
 --                label2destOf         target::rst_label2dest                             one with a destination
 --                label2labelOf        target::rst_label2label                            one with an alias
 --                both of these        target::rst_target                                 one with either, read once (Definition)
--- Targetless says where no target starts directly behind a `_`, as targetless::targetless promises; no definition above uses it.
 -- Delimited says what a part between two tags is. Strings says what an answer means with the scratch as the parser left it, and
 -- that a scratch as long as the input is enough and is asked for; the strings then end within as many bytes of it as are consumed
 -- (Ends, part of each contract). Inner is what the contracts of private functions speak of.
@@ -54,4 +53,3 @@ pub mod Target
 pub mod Definition
 pub mod Calm
 pub mod Inner
-pub mod Targetless

@@ -67,7 +67,7 @@ fn line_start(s: &[u8], indent: &[u8]) -> Part
 }
 
 // The further line that stands behind a line's text.
-pub fn further_line(s: &[u8], indent: &[u8]) -> Line
+fn further_line(s: &[u8], indent: &[u8]) -> Line
     ensures { λ r. ⌜ r ≡ furtherOf (now (indent .entry)) (now (s .entry)) ⌝ }
 {
     match line_start(s, indent) {

@@ -9,7 +9,6 @@ pub mod inline;
 pub mod label;
 mod scratch;
 pub mod target;
-pub mod targetless;
 pub mod text2target;
 pub mod transform;
 

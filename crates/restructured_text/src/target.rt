@@ -126,7 +126,7 @@ pub fn rst_parse_label2target(s: &[u8], label: bool) -> Spans
 }
 
 // The raw target of either: the simple label at the front, which makes an alias, else all of it.
-pub fn raw_target(s: &[u8]) -> Raw
+fn raw_target(s: &[u8]) -> Raw
     ensures { λ r. ⌜ r ≡ rawOf (now (s .entry)) ⌝ }
 {
     match rst_parse_simple_label(s) {

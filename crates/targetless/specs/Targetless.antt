@@ -1,4 +1,4 @@
--- Marks of a text, one byte for each place: where 1 is marked no target starts.
+-- Where no target starts, and how it is marked: for the contract of `mark`.
 -- Assumes nothing.
 use Prim.Native.Nat.{ℕ}
 use mathlib.Core.Path.{_≡_}
@@ -12,6 +12,6 @@ use Rattle.restructured_text.specs.Target.{label2targetOf}
 abbrev pub NoTarget : List ℕ → Type 0
 NoTarget s = (label : Bool) → label2targetOf label s ≡ none
 
--- where 1 is marked no target is found
+-- where 1 is marked none is found
 abbrev pub Marks : List ℕ → List ℕ → Type 0
 Marks marks s = (k : ℕ) → getD marks k 0 ≡ 1 → NoTarget (drop k s)

@@ -21,20 +21,8 @@ mark-requires c κs = search needs
 same-length : tie.Need-same-length
 same-length c = search needs
 
-same-length-2 : tie.Need-same-length-2
-same-length-2 c = search needs
-
 returns-4 : tie.Need-returns-4
-returns-4 c = λ i h. (h .0, h .1, h .2, λ e. marks-barred (c .before .before .before .before .before .mark .last .1 .0) _ (c .before .before .before .before .before .mark .ensures e))
-
-same-length-3 : tie.Need-same-length-3
-same-length-3 c = search needs
-
-same-length-4 : tie.Need-same-length-4
-same-length-4 c = search needs
-
-returns-5 : tie.Need-returns-5
-returns-5 c = λ i h. (h .0, h .1, h .2, λ e. marks-barred (c .before .before .before .before .before .mark .last .1 .0) _ (c .before .before .before .before .before .mark .ensures e))
+returns-4 c = λ i h. (h .0, h .1, h .2, λ e. marks-barred (c .before .before .mark .last .1 .0) _ (c .before .before .mark .ensures e))
 
 pub marking-spec : {M : Type 1} → statement M
 marking-spec =
@@ -45,8 +33,4 @@ marking-spec =
     returns-3
     mark-requires
     same-length
-    same-length-2
-    returns-4
-    same-length-3
-    same-length-4
-    returns-5)
+    returns-4)

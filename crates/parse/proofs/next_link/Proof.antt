@@ -56,34 +56,34 @@ marking-requires c κs = search needs
 
 round-requires : tie.Need-round-requires Inv-loop μ-loop
 round-requires c κs =
-    let v = c .before .before .before .before .before .before .before .before .before .before .before .before .before .loop .inv in
-    ((v .0, omega (arith, v .1, c .before .before .before .before .before .scratch .given, c .before .before .before .before .before .before .before .before .before .before .before .before .before .before .if1 .left)), c .before .before .before .before .before .before .marking .ensures _ (v .3))
+    let v = c .before .before .before .before .before .before .before .before .before .before .loop .inv in
+    ((v .0, omega (arith, v .1, c .before .before .before .before .before .before .before .before .before .before .before .if1 .left)), c .before .before .before .before .marking .ensures _ (v .3))
 
 enum-known-x : tie.Need-enum-known-x Inv-loop μ-loop
 enum-known-x c = search needs
 
 next-of-requires-2 : tie.Need-next-of-requires-2 Inv-loop μ-loop
 next-of-requires-2 c κs =
-    let s = c .before .before .before .before .before .before .before .before .before .before .before .before .before .before .before .before .before .before .before .before .before .before .before .before .args .s .now in
-    let l = c .before .before .before .before .before .before .before .before .before .before .before .before .before .before .before .before .before .before .before .loop in
+    let s = c .before .before .before .before .before .before .before .before .before .before .before .before .before .before .before .before .before .before .before .before .before .args .s .now in
+    let l = c .before .before .before .before .before .before .before .before .before .before .before .before .before .before .before .before .loop in
     let r = c .before .before .before .before .before .round in
-    (found-within s (l .i) (l .input-start) (r .last .1 .1 .0) (c .before .x .given .0 .0) (l .inv .0) (step-stops (l .input-start) s (l .i) (c .before .before .before .before .before .before .before .before .before .before .before .before .before .before .before .before .before .before .loop-test .taken) (r .result) (r .last .1 .1 .0) (r .ensures .0) _ _ _ (c .before .x .given .1)), subst (StepHolds s (c .before .before .before .before .before .before .before .before .before .before .before .before .marking .last .1 .1 .0)) (c .before .x .given .1) (r .ensures .1 .1))
+    (found-within s (l .i) (l .input-start) (r .last .1 .1 .0) (c .before .x .given .0 .0) (l .inv .0) (step-stops (l .input-start) s (l .i) (c .before .before .before .before .before .before .before .before .before .before .before .before .before .before .before .loop-test .taken) (r .result) (r .last .1 .1 .0) (r .ensures .0) _ _ _ (c .before .x .given .1)), subst (StepHolds s (c .before .before .before .before .before .before .before .before .before .before .marking .last .1 .0)) (c .before .x .given .1) (r .ensures .1 .1))
 
 same-length : tie.Need-same-length Inv-loop μ-loop
-same-length c = omega (arith, c .before .before .before .before .before .before .before .before .before .before .before .before .before .before .before .before .before .before .before .before .loop .inv .1, c .before .before .before .before .before .before .before .before .before .before .before .before .scratch .given, c .before .before .before .before .before .scratch2 .given)
+same-length c = omega (arith, c .before .before .before .before .before .before .before .before .before .before .before .before .before .before .before .before .before .loop .inv .1, c .before .before .before .before .before .scratch .given)
 
 same-length-2 : tie.Need-same-length-2 Inv-loop μ-loop
-same-length-2 c = omega (arith, c .before .before .before .before .before .before .before .before .before .before .before .before .before .before .before .before .before .before .before .before .loop .inv .4, c .before .before .before .before .before .before .before .before .before .before .marks .given)
+same-length-2 c = omega (arith, c .before .before .before .before .before .before .before .before .before .before .before .before .before .before .before .before .before .loop .inv .4, c .before .before .before .before .before .before .before .before .before .before .marks .given)
 
 returns-2 : tie.Need-returns-2 Inv-loop μ-loop
 returns-2 c =
-    let w = c .before .before .before .before .before .before .before .before .before .before .before .before .before .before .before .before .before .before .before .before .before .before .before .before .before .args in
-    let l = c .before .before .before .before .before .before .before .before .before .before .before .before .before .before .before .before .before .before .before .before .loop in
+    let w = c .before .before .before .before .before .before .before .before .before .before .before .before .before .before .before .before .before .before .before .before .before .before .args in
+    let l = c .before .before .before .before .before .before .before .before .before .before .before .before .before .before .before .before .before .loop in
     let r = c .before .before .before .before .before .before .round in
     let a = c .next-of2 .ensures in
-    let e = step-stops (l .input-start) (w .s .now) (l .i) (c .before .before .before .before .before .before .before .before .before .before .before .before .before .before .before .before .before .before .before .loop-test .taken) (r .result) (r .last .1 .1 .0) (r .ensures .0) _ _ _ (c .before .before .x .given .1) in (
-      sym (is-scanned (a .0) (r .last .1 .1 .0)) ∙ e ∙ sym (l .inv .2) ∙ lent-enough (w .s .now) (w .scratch .now) (scanOf (w .s .now)) (c .before .before .before .before .before .before .before .before .before .before .before .before .before .before .before .before .before .before .before .before .before .if1 .left),
-      (subst⁻¹ Ends (a .0) (subst StepEnds (c .before .before .x .given .1) (r .ensures .1 .0)), a .1 (c .before .before .before .before .before .before .before .before .before .before .before .before .before .marking .last .1 .1 .0) (found-holds (w .s .now) _ (l .i) (l .input-start) (c .before .before .before .before .before .before .before .before .before .before .before .before .before .marking .result) (r .last .1 .1 .0) (c .before .before .x .given .0 .0) (c .before .before .before .before .before .before .before .before .before .before .before .before .before .marking .ensures _ (l .inv .3)) e)),
+    let e = step-stops (l .input-start) (w .s .now) (l .i) (c .before .before .before .before .before .before .before .before .before .before .before .before .before .before .before .before .loop-test .taken) (r .result) (r .last .1 .1 .0) (r .ensures .0) _ _ _ (c .before .before .x .given .1) in (
+      sym (is-scanned (a .0) (r .last .1 .1 .0)) ∙ e ∙ sym (l .inv .2) ∙ lent-enough (w .s .now) (w .scratch .now) (scanOf (w .s .now)) (c .before .before .before .before .before .before .before .before .before .before .before .before .before .before .before .before .before .before .if1 .left),
+      (subst⁻¹ Ends (a .0) (subst StepEnds (c .before .before .x .given .1) (r .ensures .1 .0)), a .1 (c .before .before .before .before .before .before .before .before .before .before .before .marking .last .1 .0) (found-holds (w .s .now) _ (l .i) (l .input-start) (c .before .before .before .before .before .before .before .before .before .before .before .marking .result) (r .last .1 .1 .0) (c .before .before .x .given .0 .0) (c .before .before .before .before .before .before .before .before .before .before .before .marking .ensures _ (l .inv .3)) e)),
     )
 
 enum-known-next : tie.Need-enum-known-next Inv-loop μ-loop
@@ -91,22 +91,22 @@ enum-known-next c = search needs
 
 loop-less-2 : tie.Need-loop-less-2 Inv-loop μ-loop
 loop-less-2 c =
-    let s = c .before .before .before .before .before .before .before .before .before .before .before .before .before .before .before .before .before .before .before .before .before .before .before .before .args .s .now in
-    let l = c .before .before .before .before .before .before .before .before .before .before .before .before .before .before .before .before .before .before .before .loop in
+    let s = c .before .before .before .before .before .before .before .before .before .before .before .before .before .before .before .before .before .before .before .before .before .args .s .now in
+    let l = c .before .before .before .before .before .before .before .before .before .before .before .before .before .before .before .before .loop in
     let r = c .before .before .before .before .before .round in
-    let p = step-passes (l .input-start) s (l .i) (c .before .before .before .before .before .before .before .before .before .before .before .before .before .before .before .before .before .before .loop-test .taken) (r .result) (r .last .1 .1 .0) (r .ensures .0) _ _ (c .before .next .given .1) in
+    let p = step-passes (l .input-start) s (l .i) (c .before .before .before .before .before .before .before .before .before .before .before .before .before .before .before .loop-test .taken) (r .result) (r .last .1 .1 .0) (r .ensures .0) _ _ (c .before .next .given .1) in
     omega (arith, p .1, p .2)
 
 loop-again-2 : tie.Need-loop-again-2 Inv-loop μ-loop
 loop-again-2 c =
-    let s = c .before .before .before .before .before .before .before .before .before .before .before .before .before .before .before .before .before .before .before .before .before .before .before .before .args .s .now in
-    let l = c .before .before .before .before .before .before .before .before .before .before .before .before .before .before .before .before .before .before .before .loop in
+    let s = c .before .before .before .before .before .before .before .before .before .before .before .before .before .before .before .before .before .before .before .before .before .args .s .now in
+    let l = c .before .before .before .before .before .before .before .before .before .before .before .before .before .before .before .before .loop in
     let r = c .before .before .before .before .before .round in
-    let p = step-passes (l .input-start) s (l .i) (c .before .before .before .before .before .before .before .before .before .before .before .before .before .before .before .before .before .before .loop-test .taken) (r .result) (r .last .1 .1 .0) (r .ensures .0) _ _ (c .before .next .given .1) in (
+    let p = step-passes (l .input-start) s (l .i) (c .before .before .before .before .before .before .before .before .before .before .before .before .before .before .before .loop-test .taken) (r .result) (r .last .1 .1 .0) (r .ensures .0) _ _ (c .before .next .given .1) in (
       p .2,
-      omega (arith, l .inv .1, c .before .before .before .before .before .before .before .before .before .before .before .scratch .given, c .before .before .before .before .scratch2 .given),
+      omega (arith, l .inv .1, c .before .before .before .before .scratch .given),
       l .inv .2 ∙ p .0,
-      subst (StepHolds s (c .before .before .before .before .before .before .before .before .before .before .before .before .marking .last .1 .1 .0)) (c .before .next .given .1) (r .ensures .1 .1),
+      subst (StepHolds s (c .before .before .before .before .before .before .before .before .before .before .marking .last .1 .0)) (c .before .next .given .1) (r .ensures .1 .1),
       omega (arith, l .inv .4, c .before .before .before .before .before .before .before .before .before .marks .given),
     )
 

@@ -3,7 +3,7 @@
 use Prim.Native.Nat.{_-_}
 use native.Mathlib.Omega.{arith}
 use lib.ListN.{length}
-use Rattle.iterator.proofs.AreasLaws.{Cleared, clear-none, clear-more, clear-all}
+use Rattle.targetless.proofs.ClearLaws.{Cleared, clear-none, clear-more, clear-all}
 use Rattle.iterator.proofs.areas.clear_bytes.Statement.{statement}
 use Rattle.iterator.proofs.areas.clear_bytes.Tie as tie
 

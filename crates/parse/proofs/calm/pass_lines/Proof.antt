@@ -8,8 +8,9 @@ use mathlib.Core.Logic.{inl}
 use native.Mathlib.Omega.{arith}
 use lib.ListN.{length}
 use borrow.Author.Needs.{needs}
+use Rattle.rst_bytes.specs.Escaped.{isStop}
 use Rattle.parse.specs.Inner.{Calm, Skips}
-use Rattle.parse.proofs.CalmLaws.{calm-next, calm-none, calm-join, calm-skips, skips-none}
+use Rattle.parse.proofs.CalmLaws.{without-next, without-none, calm-join, calm-skips, skips-none}
 use Rattle.parse.proofs.calm.pass_lines.Statement.{statement}
 use Rattle.parse.proofs.calm.pass_lines.Tie as tie
 
@@ -22,7 +23,7 @@ abbrev μ-loop : tie.MeasureT-loop
 loop-holds : tie.Need-loop-holds Inv-loop μ-loop
 loop-holds c =
     let w = c .before .args in
-    (omega arith, omega arith, calm-none (w .i) (w .s .now), λ start. skips-none start (w .i) (w .s .now) (omega arith))
+    (omega arith, omega arith, without-none (isStop 0x5F 0x60) (w .i) (w .s .now), λ start. skips-none start (w .i) (w .s .now) (omega arith))
 
 stop-from-requires : tie.Need-stop-from-requires Inv-loop μ-loop
 stop-from-requires c κs = search needs
@@ -68,7 +69,7 @@ loop-again c =
     let q = calm-join (w .i) (l .j) k (w .s .now) (l .inv .2) (f .2) in (
       omega (arith, l .inv .0, f .0),
       omega (arith, f .1),
-      calm-next (w .i) k (w .s .now) q (sym (c .before .before .before .is-mark .ensures) ∙ c .before .before .if2 .left),
+      without-next (isStop 0x5F 0x60) (w .i) k (w .s .now) q (sym (c .before .before .before .is-mark .ensures) ∙ c .before .before .if2 .left),
       calm-skips (w .s .now) k (f .1) (c .before .ends-line .ensures (c .if3 .taken)) (w .i) (omega (arith, l .inv .0, f .0)) q,
     )
 
@@ -89,7 +90,7 @@ loop-again-2 c =
     let q = calm-join (w .i) (l .j) k (w .s .now) (l .inv .2) (f .2) in (
       omega (arith, l .inv .0, f .0),
       omega (arith, f .1),
-      calm-next (w .i) k (w .s .now) q (sym (c .before .before .before .is-mark .ensures) ∙ c .before .before .if2 .left),
+      without-next (isStop 0x5F 0x60) (w .i) k (w .s .now) q (sym (c .before .before .before .is-mark .ensures) ∙ c .before .before .if2 .left),
       l .inv .3,
     )
 

@@ -6,8 +6,10 @@ use native.Mathlib.Omega.{arith}
 use lib.ListN.{length}
 use borrow.Author.Tests.{ne-eqb}
 use borrow.Author.Needs.{needs}
+use Rattle.rst_bytes.specs.Escaped.{isStop}
+use Rattle.parse.specs.Scan.{isLf}
 use Rattle.parse.specs.Inner.{Calm, Lineless}
-use Rattle.parse.proofs.CalmLaws.{calm-none, calm-next, lineless-none, lineless-next}
+use Rattle.parse.proofs.CalmLaws.{without-none, without-next}
 use Rattle.parse.proofs.calm.stop_from.Statement.{statement}
 use Rattle.parse.proofs.calm.stop_from.Tie as tie
 
@@ -20,7 +22,7 @@ abbrev μ-loop : tie.MeasureT-loop
 loop-holds : tie.Need-loop-holds Inv-loop μ-loop
 loop-holds c =
     let w = c .before .args in
-    (omega arith, omega arith, calm-none (w .i) (w .s .now), lineless-none (w .i) (w .s .now))
+    (omega arith, omega arith, without-none (isStop 0x5F 0x60) (w .i) (w .s .now), without-none isLf (w .i) (w .s .now))
 
 shared-slice-read-b : tie.Need-shared-slice-read-b Inv-loop μ-loop
 shared-slice-read-b c = search needs
@@ -46,8 +48,8 @@ loop-again c =
     let l = c .before .before .before .before .before .loop in (
       omega (arith, l .inv .0),
       omega (arith, l .inv .0),
-      calm-next (w .i) (l .j) (w .s .now) (l .inv .2) (sym (c .before .before .is-mark .ensures) ∙ c .before .if1 .left),
-      lineless-next (w .i) (l .j) (w .s .now) (l .inv .3) (ne-eqb _ 10 (c .if2 .left)),
+      without-next (isStop 0x5F 0x60) (w .i) (l .j) (w .s .now) (l .inv .2) (sym (c .before .before .is-mark .ensures) ∙ c .before .if1 .left),
+      without-next isLf (w .i) (l .j) (w .s .now) (l .inv .3) (ne-eqb _ 10 (c .if2 .left)),
     )
 
 returns-3 : tie.Need-returns-3 Inv-loop μ-loop

@@ -1,0 +1,43 @@
+-- `runs::is_word_label` meets its contract: a word of two bytes or more stands there, and its last byte tells.
+-- Assumes nothing.
+use Rattle.targetless.proofs.LeafLaws.{word-short, word-inside, word-told}
+use borrow.Author.Needs.{needs}
+use Rattle.targetless.proofs.runs.is_word_label.Statement.{statement}
+use Rattle.targetless.proofs.runs.is_word_label.Tie as tie
+
+sub-v : tie.Need-sub-v
+sub-v c = search needs
+
+part-v-start : tie.Need-part-v-start
+part-v-start c = search needs
+
+part-v-end : tie.Need-part-v-end
+part-v-end c = search needs
+
+word-run-requires : tie.Need-word-run-requires
+word-run-requires c κs = search needs
+
+returns : tie.Need-returns
+returns c = word-short (c .before .before .before .before .args .s .now) (c .before .before .before .before .args .i) _ (c .before .word-run .ensures) (c .if1 .taken)
+
+sub-b : tie.Need-sub-b
+sub-b c = search needs
+
+shared-slice-read-b : tie.Need-shared-slice-read-b
+shared-slice-read-b c = word-inside (c .before .before .before .before .before .args .s .now) (c .before .before .before .before .before .args .i) _ (c .before .before .word-run .ensures) (c .before .if1 .left)
+
+returns-2 : tie.Need-returns-2
+returns-2 c = word-told (c .before .before .before .before .before .args .s .now) (c .before .before .before .before .before .args .i) _ (c .before .before .word-run .ensures) (c .before .if1 .left)
+
+pub is-word-label-spec : {M : Type 1} → statement M
+is-word-label-spec =
+    tie.close
+    (tie.spec
+    sub-v
+    part-v-start
+    part-v-end
+    word-run-requires
+    returns
+    sub-b
+    shared-slice-read-b
+    returns-2)

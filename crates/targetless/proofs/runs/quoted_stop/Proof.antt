@@ -1,0 +1,56 @@
+-- `runs::quoted_stop` meets its contract: a name is closed only where a colon follows, and then it is the next place that tells.
+-- Assumes nothing.
+use mathlib.Core.Path.{sym, ap, subst⁻¹, _∙_}
+use lib.ListN.{drop}
+use Rattle.targetless.specs.declared.Verdict.{Verdict}
+use Rattle.targetless.specs.Verdict.{endsLine, Tells}
+use Rattle.targetless.specs.Runs.{quotedStop}
+use Rattle.targetless.proofs.StateLaws.{quoted-open, quoted-plain}
+use borrow.Author.Needs.{needs}
+use Rattle.targetless.proofs.runs.quoted_stop.Statement.{statement}
+use Rattle.targetless.proofs.runs.quoted_stop.Tie as tie
+
+sub-tag : tie.Need-sub-tag
+sub-tag c = search needs
+
+part-tag-start : tie.Need-part-tag-start
+part-tag-start c = search needs
+
+part-tag-end : tie.Need-part-tag-end
+part-tag-end c = search needs
+
+slice-aggregate-tag : tie.Need-slice-aggregate-tag
+slice-aggregate-tag c = search needs
+
+tag-requires : tie.Need-tag-requires
+tag-requires c κs = search needs
+
+returns : tie.Need-returns
+returns c =
+    let a = c .before .before .before .before .before in
+    let s = a .args .s .now in
+    let i = a .args .i in
+    quoted-plain s i (a .pre .0 .0) (ap endsLine (a .pre .0 .1)) (a .pre .0 .1) (sym (c .before .tag .ensures) ∙ c .if1 .taken) (a .args .plain) (a .pre .1)
+
+everything-requires : tie.Need-everything-requires
+everything-requires c κs = search needs
+
+returns-2 : tie.Need-returns-2
+returns-2 c =
+    let a = c .before .before .before .before .before .before in
+    let s = a .args .s .now in
+    let i = a .args .i in
+    subst⁻¹ (λ (v : Verdict). Tells quotedStop v (drop i s)) (c .everything .ensures) (quoted-open s i (a .pre .0 .0) (ap endsLine (a .pre .0 .1)) (a .pre .0 .1) (sym (c .before .before .tag .ensures) ∙ c .before .if1 .left))
+
+pub quoted-stop-spec : {M : Type 1} → statement M
+quoted-stop-spec =
+    tie.close
+    (tie.spec
+    sub-tag
+    part-tag-start
+    part-tag-end
+    slice-aggregate-tag
+    tag-requires
+    returns
+    everything-requires
+    returns-2)
