@@ -21,7 +21,7 @@ use Rattle.restructured_text.specs.Block.{three}
 use Rattle.restructured_text.proofs.BlockLaws.{from}
 use Rattle.targetless.specs.declared.Verdict.{Verdict}
 use Rattle.targetless.specs.declared.State.{State}
-use Rattle.targetless.specs.Verdict.{everything, nothing, sureOf, minOf, maxOf, bothOf, loneOf, overOf, judgedOf, endsLine, escapeOf, Shared}
+use Rattle.targetless.specs.Verdict.{bitOf, isLone, everything, nothing, sureOf, minOf, loneOf, overOf, judgedOf, endsLine, escapeOf, Shared}
 use Rattle.targetless.specs.Runs.{escapableOf, wordLabelled}
 use Rattle.targetless.specs.Walk.{Indented}
 
@@ -39,25 +39,24 @@ module _ (all : Bool) (n : ℕ) where
   pub sure-none : all ≡ false → nothing n ≡ sureOf all n
   sure-none e = rw e
 
--- what both say, by the first one where no further line follows
-pub both-by : (a b : Verdict) (lone : Bool) (low high : ℕ) → ((a .lone ≡ true) × (lone ≡ b .lone)) ⊎ ((a .lone ≡ false) × (lone ≡ false)) → low ≡ minOf (a .low) (b .low) → high ≡ maxOf (a .high) (b .high) → record { lone = lone; low = low; high = high } ≡ bothOf a b
-both-by a b lone low high w e f = go w
-  where
-    go : ((a .lone ≡ true) × (lone ≡ b .lone)) ⊎ ((a .lone ≡ false) × (lone ≡ false)) → record { lone = lone; low = low; high = high } ≡ bothOf a b
-    go (inl x) = rw (x .0, x .1, e, f) refl
-    go (inr x) = rw (x .0, x .1, e, f) refl
+-- verdicts of the same numbers are the same
+abbrev pub verdictOf : ℕ → ℕ → ℕ → Verdict
+verdictOf a b c = record { lone = a; low = b; high = c }
+
+pub verdict-of : {a a′ b b′ c c′ : ℕ} → a ≡ a′ → b ≡ b′ → c ≡ c′ → verdictOf a b c ≡ verdictOf a′ b′ c′
+verdict-of e f g = rw (e, f, g) refl
 
 -- states of the same verdicts are the same
 pub state-of : {a a′ b b′ c c′ d d′ e e′ f f′ : Verdict} → a ≡ a′ → b ≡ b′ → c ≡ c′ → d ≡ d′ → e ≡ e′ → f ≡ f′ → stateOf a b c d e f ≡ stateOf a′ b′ c′ d′ e′ f′
 state-of p q r s t u = rw (p, q, r, s, t, u) refl
 
 -- what is told of the next line, by whether it is told where no line follows that one
-module _ (v : Verdict) (lone : Bool) (shared n r : ℕ) where
-  pub over-lone : v .lone ≡ true → r ≡ minOf shared (v .high) → record { lone = lone; low = v .low; high = r } ≡ overOf v lone shared n
-  over-lone e f = rw (e, f)
+module _ (v : Verdict) (lone : Bool) (shared n b r : ℕ) (g : b ≡ bitOf lone) where
+  pub over-lone : 0 < v .lone → r ≡ minOf shared (v .high) → verdictOf b (v .low) r ≡ overOf v lone shared n
+  over-lone e f = verdict-of g refl f ∙ sym (picks-first _ _ _ (lt-ltb 0 (v .lone) e))
 
-  pub over-open : v .lone ≡ false → r ≡ minOf shared (v .low) → record { lone = lone; low = r; high = n } ≡ overOf v lone shared n
-  over-open e f = rw (e, f)
+  pub over-open : v .lone ≤ 0 → r ≡ minOf shared (v .low) → verdictOf b r n ≡ overOf v lone shared n
+  over-open e f = verdict-of g f refl ∙ sym (picks-second _ _ _ (le-ltb 0 (v .lone) e))
 
 -- what a verdict says where a further line follows
 module _ (v : Verdict) (on : Bool) (m : ℕ) (e : on ≡ true) where
@@ -66,6 +65,10 @@ module _ (v : Verdict) (on : Bool) (m : ℕ) (e : on ≡ true) where
 
   pub judged-high : v .low < m → ltb (v .high) m ≡ judgedOf v on m
   judged-high h = rw (e, lt-leb m (v .low) h)
+
+-- where none does
+pub judged-lone : (v : Verdict) (on : Bool) (m : ℕ) → on ≡ false → isLone v ≡ judgedOf v on m
+judged-lone v on m e = rw e
 
 -- Escapes.
 

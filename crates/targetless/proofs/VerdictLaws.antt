@@ -24,7 +24,7 @@ use Rattle.restructured_text.specs.declared.block.Line.{Line}
 use Rattle.restructured_text.specs.declared.block.Line.the-variants.{Further, End}
 use Rattle.restructured_text.specs.Block.{three, lineAt, furtherOf}
 use Rattle.targetless.specs.declared.Verdict.{Verdict}
-use Rattle.targetless.specs.Verdict.{joinedOf, isFurther, Blank, minOf, maxOf, everything, nothing, sureOf, bothOf, loneOf, overOf, judgedOf, Tells, run, endsLine, escapeOf, Follows, Shared}
+use Rattle.targetless.specs.Verdict.{joinedOf, isFurther, Blank, bitOf, isLone, minOf, maxOf, everything, nothing, sureOf, bothOf, loneOf, overOf, judgedOf, Tells, run, endsLine, escapeOf, Follows, Shared}
 use Rattle.targetless.proofs.TextLaws.{line-behind, line-behind-refused, line-here, line-stops, text-end, text-further, further-lf-other, further-lf-starts, further-long, further-none-at, crlf-further, crlf-text, crlf-here, crlf-next, crlf-first, lf-first}
 
 -- nothing is told
@@ -68,6 +68,10 @@ max-lt m a b = by-test (λ k. k < m → (a < m) × (b < m)) (ltb a b) b a (λ e 
 min-lt : (m a b : ℕ) → minOf a b < m → m ≤ a → b < m
 min-lt m a b = by-test (λ k. k < m → m ≤ a → b < m) (ltb a b) a b (λ e h g. absurd (omega arith)) (λ e h g. h)
 
+bit-lone : (b : Bool) → ltb 0 (bitOf b) ≡ b
+bit-lone true = refl
+bit-lone false = refl
+
 -- A verdict where a further line follows.
 judged-low : (v : Verdict) (m : ℕ) → m ≤ v .low → judgedOf v true m ≡ true
 judged-low v m h = ap (λ (x : Bool). x || ltb (v .high) m) (le-leb m (v .low) h)
@@ -87,7 +91,9 @@ and-both true b e = (refl, e)
 and-both false b e = absurd (false≢true e)
 
 judged-both : (a b : Verdict) (x : Bool) (m : ℕ) → judgedOf (bothOf a b) x m ≡ true → (judgedOf a x m ≡ true) × (judgedOf b x m ≡ true)
-judged-both a b false m e = and-both (a .lone) (b .lone) e
+judged-both a b false m e =
+    let w = min-le 1 (a .lone) (b .lone) (ltb-true 0 (minOf (a .lone) (b .lone)) e) in
+    (lt-ltb 0 (a .lone) (w .0), lt-ltb 0 (b .lone) (w .1))
 judged-both a b true m e =
     ⊎-elim
     (λ l.
@@ -218,6 +224,7 @@ module _ (stop : ℕ) (ok : ℕ → Bool) (at : List ℕ → Bool) (wrong end : 
         go End g k j =
             ap (λ (q : List ℕ). run stop ok at wrong end (b ∷ q)) (text-end indent (c ∷ l) g)
             ∙ run-alone b e
+            ∙ sym (bit-lone wrong)
             ∙ sym (ap (λ (x : Line). judgedOf (loneOf near wrong) (isFurther x) (length indent + 3)) g) ∙ j
 
     escape-pair : (c : ℕ) (l : List ℕ) → endsLine c ≡ false → ok c ≡ true → Tells (run stop ok at wrong end) far l → Tells (run stop ok at wrong end) far (b ∷ c ∷ l)
@@ -262,7 +269,7 @@ module _ (stop : ℕ) (ok : ℕ → Bool) (at : List ℕ → Bool) (wrong end : 
       let z : m ≡ 0 = taken-is m 0 (sym e ∙ h) in
       subst⁻¹ (λ (k : ℕ). judgedOf (loneOf (everything n) end) (isFurther (furtherOf indent (drop k s))) (length indent + 3) ≡ true → run stop ok at wrong end (joinedOf indent k s) ≡ true) z
       (λ j.
-      ap (run stop ok at wrong end) (text-end indent s (g indent blank)) ∙ run-none
+      ap (run stop ok at wrong end) (text-end indent s (g indent blank)) ∙ run-none ∙ sym (bit-lone end)
       ∙ sym (ap (λ (x : Line). judgedOf (loneOf (everything n) end) (isFurther x) (length indent + 3)) (g indent blank)) ∙ j)
 
 -- Blanks.
@@ -466,20 +473,20 @@ module _ (s : List ℕ) (i : ℕ) (h : i + 1 < length s) (e : getD s i 0 ≡ 13)
 -- Over a line's end.
 
 -- what the next line's verdict says where no further line follows it is not used
-over-lone : (v : Verdict) (lone : Bool) (k n : ℕ) → overOf v lone k n .lone ≡ lone
+over-lone : (v : Verdict) (lone : Bool) (k n : ℕ) → isLone (overOf v lone k n) ≡ lone
 over-lone v lone k n =
-    by-test (λ (o : Verdict). o .lone ≡ lone) (v .lone)
-    (record { lone = lone; low = v .low; high = minOf k (v .high) })
-    (record { lone = lone; low = minOf k (v .low); high = n })
-    (λ e. refl)
-    (λ e. refl)
+    by-test (λ (o : Verdict). isLone o ≡ lone) (isLone v)
+    (record { lone = bitOf lone; low = v .low; high = minOf k (v .high) })
+    (record { lone = bitOf lone; low = minOf k (v .low); high = n })
+    (λ e. bit-lone lone)
+    (λ e. bit-lone lone)
 
 -- where the next line is a further one, its verdict is true: behind it stands one just if both have these blanks in common
 over-judged :
     (v : Verdict) (lone : Bool) (k n m : ℕ) (y : Bool) → (y ≡ true → m ≤ k) → (m ≤ k → y ≡ true) → m ≤ n
     → judgedOf (overOf v lone k n) true m ≡ true → judgedOf v y m ≡ true
 over-judged v lone k n m y f g h =
-    by-test (λ (o : Verdict). judgedOf o true m ≡ true → judgedOf v y m ≡ true) (v .lone) far near
+    by-test (λ (o : Verdict). judgedOf o true m ≡ true → judgedOf v y m ≡ true) (isLone v) far near
     (λ e j. sure e y f j)
     (λ e j. ⊎-elim
     (λ l.
@@ -489,12 +496,12 @@ over-judged v lone k n m y f g h =
     (judged-cases near m j))
   where
     far : Verdict
-    far = record { lone = lone; low = v .low; high = minOf k (v .high) }
+    far = record { lone = bitOf lone; low = v .low; high = minOf k (v .high) }
 
     near : Verdict
-    near = record { lone = lone; low = minOf k (v .low); high = n }
+    near = record { lone = bitOf lone; low = minOf k (v .low); high = n }
 
-    sure : v .lone ≡ true → (x : Bool) → (x ≡ true → m ≤ k) → judgedOf far true m ≡ true → judgedOf v x m ≡ true
+    sure : isLone v ≡ true → (x : Bool) → (x ≡ true → m ≤ k) → judgedOf far true m ≡ true → judgedOf v x m ≡ true
     sure e true c j = ⊎-elim (λ l. judged-low v m l) (λ l. judged-high v m (min-lt m k (v .high) l (c refl))) (judged-cases far m j)
     sure e false c j = e
 

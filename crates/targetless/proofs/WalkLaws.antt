@@ -27,7 +27,7 @@ use Rattle.targetless.specs.declared.Verdict.{Verdict}
 use Rattle.targetless.specs.declared.State.{State}
 use Rattle.targetless.specs.declared.line.Walk.{Walk}
 use Rattle.targetless.specs.Targetless.{NoTarget, Marks}
-use Rattle.targetless.specs.Verdict.{isFurther, Blank, Shared, judgedOf, joinedOf, Tells, endsLine, overOf, loneOf, everything}
+use Rattle.targetless.specs.Verdict.{isFurther, Blank, isLone, Shared, judgedOf, joinedOf, Tells, endsLine, overOf, loneOf, everything}
 use Rattle.targetless.specs.Runs.{escapableOf, wordLabelled, isDead, destinationRun, labelRun, labelStop, plainRun, plainStop, quotedRun, quotedStop, closedRun, closedStop, StateTells}
 use Rattle.targetless.specs.Walk.{lastOf, overLine, Walked}
 use Rattle.targetless.proofs.TextLaws.{broken-byte, taken-byte, taken-lf, taken-cr, further-none-at}
@@ -38,7 +38,7 @@ use Rattle.targetless.proofs.StateLaws.{text-ended}
 -- Where no further line follows.
 
 -- nothing is told where a verdict tells nothing of that
-tells-alone : (g : List ℕ → Bool) (v : Verdict) (s : List ℕ) → v .lone ≡ false → notLineEndingOf s ≡ Taken 0 → ((indent : List ℕ) → Blank indent → furtherOf indent s ≡ End) → Tells g v s
+tells-alone : (g : List ℕ → Bool) (v : Verdict) (s : List ℕ) → isLone v ≡ false → notLineEndingOf s ≡ Taken 0 → ((indent : List ℕ) → Blank indent → furtherOf indent s ≡ End) → Tells g v s
 tells-alone g v s a h f indent n blank e j =
     let z : n ≡ 0 = taken-is n 0 (sym e ∙ h) in
     let y : furtherOf indent (drop n s) ≡ End = ap (λ (k : ℕ). furtherOf indent (drop k s)) z ∙ f indent blank in

@@ -33,13 +33,22 @@ minOf a b = elim (ltb a b) [ true ↦ a | false ↦ b ]
 abbrev pub maxOf : ℕ → ℕ → ℕ
 maxOf a b = elim (ltb a b) [ true ↦ b | false ↦ a ]
 
+-- 1 if so
+abbrev pub bitOf : Bool → ℕ
+bitOf true = 1
+bitOf false = 0
+
+-- it is so where no further line follows
+abbrev pub isLone : Verdict → Bool
+isLone v = ltb 0 (v .lone)
+
 -- it is so for each indent, in texts of at most n bytes
 abbrev pub everything : ℕ → Verdict
-everything n = record { lone = true; low = n; high = 0 }
+everything n = record { lone = 1; low = n; high = 0 }
 
 -- nothing is told
 abbrev pub nothing : ℕ → Verdict
-nothing n = record { lone = false; low = 0; high = n }
+nothing n = record { lone = 0; low = 0; high = n }
 
 abbrev pub sureOf : Bool → ℕ → Verdict
 sureOf true n = everything n
@@ -47,24 +56,24 @@ sureOf false n = nothing n
 
 -- what both say
 abbrev pub bothOf : Verdict → Verdict → Verdict
-bothOf a b = record { lone = a .lone && b .lone; low = minOf (a .low) (b .low); high = maxOf (a .high) (b .high) }
+bothOf a b = record { lone = minOf (a .lone) (b .lone); low = minOf (a .low) (b .low); high = maxOf (a .high) (b .high) }
 
 -- the same where a further line follows
 abbrev pub loneOf : Verdict → Bool → Verdict
-loneOf v lone = record { lone = lone; low = v .low; high = v .high }
+loneOf v lone = record { lone = bitOf lone; low = v .low; high = v .high }
 
 -- at a line's end, by what is told of the next line, which has the first blanks in common with the line behind it
 abbrev pub overOf : Verdict → Bool → ℕ → ℕ → Verdict
 overOf next lone shared n =
-    elim (next .lone) [
-      | true ↦ record { lone = lone; low = next .low; high = minOf shared (next .high) }
-      | false ↦ record { lone = lone; low = minOf shared (next .low); high = n }
+    elim (isLone next) [
+      | true ↦ record { lone = bitOf lone; low = next .low; high = minOf shared (next .high) }
+      | false ↦ record { lone = bitOf lone; low = minOf shared (next .low); high = n }
     ]
 
 -- what a verdict says for an indent that has m bytes with three spaces
 abbrev pub judgedOf : Verdict → Bool → ℕ → Bool
 judgedOf v true m = leb m (v .low) || ltb (v .high) m
-judgedOf v false m = v .lone
+judgedOf v false m = isLone v
 
 -- the verdict is true of the test of each text that begins with s
 abbrev pub Tells : (List ℕ → Bool) → Verdict → List ℕ → Type 0

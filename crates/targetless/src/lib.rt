@@ -17,9 +17,10 @@ ghost use lib.ListN.{length, replicate};
 ghost use Rattle.targetless.specs.Targetless.{Marks};
 
 // What is told of the texts that stand from a place on, for each indent that their block may have: where no further line follows the line,
-// whether it is so; where one does, it is so if the indent and three spaces have at most `low` bytes, or more than `high`.
+// it is so if `lone` is 1, a number since a bool would leave bytes in the struct that are slow to copy; where one does, if the indent and three
+// spaces have at most `low` bytes, or more than `high`.
 pub struct Verdict {
-    pub lone: bool,
+    pub lone: usize,
     pub low: usize,
     pub high: usize,
 }

@@ -1,14 +1,14 @@
 // Verdicts, and what is made of them. Each text has at most n bytes.
 use crate::Verdict;
 ghost use mathlib.Core.Path.{_≡_};
-ghost use Rattle.targetless.specs.Verdict.{everything, nothing, sureOf, minOf, maxOf, bothOf, loneOf, overOf, judgedOf};
+ghost use Rattle.targetless.specs.Verdict.{bitOf, everything, nothing, sureOf, minOf, maxOf, bothOf, loneOf, overOf, judgedOf};
 
 // It is so for each indent.
 pub fn everything(n: usize) -> Verdict
     ensures { λ r. ⌜ r ≡ everything n ⌝ }
 {
     Verdict {
-        lone: true,
+        lone: 1,
         low: n,
         high: 0,
     }
@@ -19,7 +19,7 @@ pub fn nothing(n: usize) -> Verdict
     ensures { λ r. ⌜ r ≡ nothing n ⌝ }
 {
     Verdict {
-        lone: false,
+        lone: 0,
         low: 0,
         high: n,
     }
@@ -39,10 +39,20 @@ pub fn sure(all: bool, n: usize) -> Verdict
 pub fn both(a: Verdict, b: Verdict) -> Verdict
     ensures { λ r. ⌜ r ≡ bothOf a b ⌝ }
 {
-    let lone = a.lone && b.lone;
+    let lone = least(a.lone, b.lone);
     let low = least(a.low, b.low);
     let high = greatest(a.high, b.high);
     Verdict { lone, low, high }
+}
+
+// 1 if so, else 0.
+fn bit(so: bool) -> usize
+    ensures { λ r. ⌜ r ≡ bitOf so ⌝ }
+{
+    if so {
+        return 1;
+    }
+    0
 }
 
 // The lesser number.
@@ -70,7 +80,7 @@ pub fn with_lone(v: Verdict, lone: bool) -> Verdict
     ensures { λ r. ⌜ r ≡ loneOf v lone ⌝ }
 {
     Verdict {
-        lone,
+        lone: bit(lone),
         low: v.low,
         high: v.high,
     }
@@ -80,15 +90,15 @@ pub fn with_lone(v: Verdict, lone: bool) -> Verdict
 pub fn over(next: Verdict, lone: bool, shared: usize, n: usize) -> Verdict
     ensures { λ r. ⌜ r ≡ overOf next lone shared n ⌝ }
 {
-    if next.lone {
+    if 0 < next.lone {
         return Verdict {
-            lone,
+            lone: bit(lone),
             low: next.low,
             high: least(shared, next.high),
         };
     }
     Verdict {
-        lone,
+        lone: bit(lone),
         low: least(shared, next.low),
         high: n,
     }
@@ -104,5 +114,5 @@ pub fn judged(v: Verdict, on: bool, m: usize) -> bool
         }
         return v.high < m;
     }
-    v.lone
+    0 < v.lone
 }

@@ -1,7 +1,6 @@
 -- `verdicts::judged` meets its contract: `judgedOf` by the flag and the two bounds.
 -- Assumes nothing.
-use Rattle.targetless.proofs.LeafLaws.{judged-low, judged-high}
-use borrow.Author.Needs.{needs}
+use Rattle.targetless.proofs.LeafLaws.{judged-low, judged-high, judged-lone}
 use Rattle.targetless.proofs.verdicts.judged.Statement.{statement}
 use Rattle.targetless.proofs.verdicts.judged.Tie as tie
 
@@ -12,7 +11,7 @@ returns-2 : tie.Need-returns-2
 returns-2 c = judged-high _ _ _ (c .before .before .before .if1 .taken) (c .before .if2 .left)
 
 returns-3 : tie.Need-returns-3
-returns-3 c = search needs
+returns-3 c = judged-lone _ _ _ (c .before .if1 .left)
 
 pub judged-spec : {M : Type 1} → statement M
 judged-spec = tie.close (tie.spec returns returns-2 returns-3)
