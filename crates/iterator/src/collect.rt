@@ -401,7 +401,6 @@ pub fn collect(document: &[u8], render: u32, numbers: &mut [u32], bytes: &mut [u
         shut: 0,
         barren: 0,
         blocks: 0,
-        marked: false,
         failed: 0,
     };
     let mut marks = [0u8; DOCUMENT_LEN_MAX];

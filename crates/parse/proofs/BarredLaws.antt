@@ -6,17 +6,18 @@ use mathlib.Core.Path.{_≡_, refl, sym, ap, subst, subst⁻¹, _∙_}
 use mathlib.Core.List.{List, [], _∷_}
 use mathlib.Core.Bool.{Bool, true, false, true≢false}
 use native.Mathlib.Omega.{arith}
-use lib.ListN.{length, drop, take, getD, length-drop}
+use lib.ListN.{length, drop, take, getD, replicate, length-drop}
 use lib.Seq.{drop-drop, getD-drop}
 use Rattle.rst_bytes.proofs.Lists.{part-from}
 use Rattle.restructured_text.specs.Strings.{Link, link, none, no-room}
 use Rattle.restructured_text.specs.Target.{label2destOf, label2labelOf, startsTarget}
 use Rattle.restructured_text.proofs.TargetLaws.{label2label-room, no-label, no-destination}
 use Rattle.targetless.specs.Targetless.{NoTarget, Marks}
+use Rattle.targetless.proofs.WalkLaws.{marks-none}
 use Rattle.parse.specs.Link.{Kind, Scanned, found, nothing}
 use Rattle.parse.specs.Forms.{alias, destination, tried, rst}
 use Rattle.parse.specs.Scan.{blockAt, consumedOf}
-use Rattle.parse.specs.Inner.{NoBlock, Barred, Told, Free}
+use Rattle.parse.specs.Inner.{NoBlock, Barred, Free}
 use Rattle.parse.proofs.FormsLaws.{tried-link, tried-next, no-block}
 
 -- where no target starts no block begins
@@ -68,21 +69,21 @@ marks-barred marks s f k e =
     let z : k ≡ 0 + k = omega arith in
     no-target (drop k s) (f k (ap (λ (i : ℕ). getD marks i 0) z ∙ e))
 
--- nothing is told where it is not told that there are marks
-pub untold : (m : ℕ) (marks s : List ℕ) → Told false m marks s
-untold m marks s e = absurd (true≢false (sym e))
+-- where nothing is marked nothing is claimed
+pub barred-none : (n : ℕ) (s : List ℕ) → Barred 0 (replicate n 0) s
+barred-none n s = marks-barred (replicate n 0) s (marks-none n s)
 
 -- Marks of s tell of what stands at place k of it, in the marks of s and in those from there on.
-module _ (marked : Bool) (marks s : List ℕ) (f : Told marked 0 marks s) (k : ℕ) where
-  pub told-part : (v : List ℕ) → v ≡ drop k s → Told marked k marks v
-  told-part v e t i g =
+module _ (marks s : List ℕ) (f : Barred 0 marks s) (k : ℕ) where
+  pub barred-part : (v : List ℕ) → v ≡ drop k s → Barred k marks v
+  barred-part v e i g =
       let z : k + i ≡ 0 + (k + i) = omega arith in
-      subst⁻¹ NoBlock (ap (drop i) e ∙ drop-drop i k s) (f t (k + i) (ap (λ (j : ℕ). getD marks j 0) (sym z) ∙ g))
+      subst⁻¹ NoBlock (ap (drop i) e ∙ drop-drop i k s) (f (k + i) (ap (λ (j : ℕ). getD marks j 0) (sym z) ∙ g))
 
-  pub told-front : Told marked 0 (drop k marks) (drop k s)
-  told-front t i g =
+  pub barred-front : Barred 0 (drop k marks) (drop k s)
+  barred-front i g =
       let z : k + (0 + i) ≡ k + i = omega arith in
-      told-part (drop k s) refl t i (ap (λ (j : ℕ). getD marks j 0) (sym z) ∙ sym (getD-drop k marks (0 + i) 0) ∙ g)
+      barred-part (drop k s) refl i (ap (λ (j : ℕ). getD marks j 0) (sym z) ∙ sym (getD-drop k marks (0 + i) 0) ∙ g)
 
 -- a scratch as long as the text is enough for a part of it
 pub part-room : (k : ℕ) (s d : List ℕ) → length s ≤ length d → length (take (length s - k) (drop k s)) ≤ length d

@@ -7,7 +7,7 @@ use mathlib.Core.Path.{_≡_, sym, ap, subst, subst⁻¹, _∙_}
 use mathlib.Core.List.{List}
 use mathlib.Core.Bool.{Bool, true, false}
 use lib.Dec.{ltb}
-use lib.ListN.{length, drop, length-drop}
+use lib.ListN.{length, drop, replicate, length-drop}
 use borrow.Author.Tests.{ltb-true}
 use Rattle.rst_bytes.proofs.TestLaws.{by-test}
 use Rattle.parse.specs.declared.Known.{Known}
@@ -22,15 +22,15 @@ use Rattle.parse.specs.Laws.{Inside}
 use Rattle.parse.specs.Inner.{Tick, Any, NoPart, NoLink, NoBlock, Blockless, Holds, Free, knownFrom, linkEnd, EndsWithin, HoldsBehind}
 use Rattle.parse.proofs.ScanLaws.{rounds-inside, rst-consuming}
 use Rattle.parse.proofs.BacktickLaws.{each-none, each-front, holds-later}
-use Rattle.parse.proofs.BarredLaws.{untold, told-front}
+use Rattle.parse.proofs.BarredLaws.{barred-none, barred-front}
 
--- nothing known is true of every text
-pub holds-nothing : (s marks : List ℕ) (m : ℕ) → Holds m (record { shut = 0; barren = 0; blocks = 0; marked = false; failed = 0 }) marks s
-holds-nothing s marks m = (
+-- nothing known, with nothing marked, is true of every text
+pub holds-nothing : (s : List ℕ) (m n : ℕ) → Holds m (record { shut = 0; barren = 0; blocks = 0; failed = 0 }) (replicate n 0) s
+holds-nothing s m n = (
   each-none (Tick NoPart) s m 0 (omega arith),
   each-none (Tick NoLink) s m 0 (omega arith),
   each-none (Any NoBlock) s m 0 (omega arith),
-  untold 0 marks s,
+  barred-none n s,
 )
 
 -- where it is told, no block begins at the front
@@ -45,12 +45,12 @@ holds-front :
     (s marks : List ℕ) (m k free failed : ℕ) (known : Known) → m ≤ k → Holds m known marks s → Free free (drop k s)
     → Holds 0 (knownFrom k free failed known) (drop k marks) (drop k s)
 holds-front s marks m k free failed known h w f =
-    (each-front (Tick NoPart) s m k (known .shut) h (w .0), each-front (Tick NoLink) s m k (known .barren) h (w .1), blocks-front (drop k s) free f, told-front (known .marked) marks s (w .3) k)
+    (each-front (Tick NoPart) s m k (known .shut) h (w .0), each-front (Tick NoLink) s m k (known .barren) h (w .1), blocks-front (drop k s) free f, barred-front marks s (w .3) k)
 
 -- the places as `known_from` has them
 pub known-is :
     (known : Known) (n a b c failed free : ℕ) → a ≡ known .shut - n → b ≡ known .barren - n → c ≡ elim (ltb 0 free) [ true ↦ 1 | false ↦ 0 ]
-    → record { shut = a; barren = b; blocks = c; marked = known .marked; failed = failed } ≡ knownFrom n free failed known
+    → record { shut = a; barren = b; blocks = c; failed = failed } ≡ knownFrom n free failed known
 known-is known n a b c failed free e f g = rw (e, f, g)
 
 -- and what `next_of` hands on

@@ -64,10 +64,6 @@ Blockless m n s = Each (Any NoBlock) m n s
 abbrev pub Barred : ℕ → List ℕ → List ℕ → Type 0
 Barred m marks s = (k : ℕ) → getD marks (m + k) 0 ≡ 1 → NoBlock (drop k s)
 
--- if it is told that they are marked
-abbrev pub Told : Bool → ℕ → List ℕ → List ℕ → Type 0
-Told marked m marks s = marked ≡ true → Barred m marks s
-
 -- the first unescaped backtick or < is <
 abbrev pub Opened : List ℕ → Type 0
 Opened s = (n : ℕ) × (taking 0x60 0x3C false 0 s ≡ Taken n) × (n < length s) × (getD s n 0 ≡ 0x3C)
@@ -75,7 +71,7 @@ Opened s = (n : ℕ) × (taking 0x60 0x3C false 0 s ≡ Taken n) × (n < length 
 -- what is known from place m on is true, with these marks of the text
 abbrev pub Holds : ℕ → Known → List ℕ → List ℕ → Type 0
 Holds m known marks s =
-    Shut m (known .shut) s × Barren m (known .barren) s × Blockless m (known .blocks) s × Told (known .marked) 0 marks s
+    Shut m (known .shut) s × Barren m (known .barren) s × Blockless m (known .blocks) s × Barred 0 marks s
 
 -- what is told of blocks in a text by a number: where it is not 0, none begins at the front
 abbrev pub Free : ℕ → List ℕ → Type 0
@@ -88,7 +84,6 @@ knownFrom n free failed known =
       shut = known .shut - n;
       barren = known .barren - n;
       blocks = elim (ltb 0 free) [ true ↦ 1 | false ↦ 0 ];
-      marked = known .marked;
       failed = failed;
     }
 

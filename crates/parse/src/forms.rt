@@ -1,5 +1,5 @@
 // The forms that are tried at one place, in their order. The text begins at that place, and so many bytes before it were skipped. The
-// marks are those of the text with these bytes: at places that are marked no block begins, if it is told that they are marked.
+// marks are those of the text with these bytes: at places that are marked no block begins.
 use crate::Link;
 use crate::Scan;
 use restructured_text::Strings;
@@ -16,7 +16,7 @@ ghost use lib.ListN.{length, take, drop, getD};
 ghost use Rattle.parse.specs.Link.{scannedOf, Ends, behind};
 ghost use Rattle.parse.specs.Forms.{tried, rst};
 ghost use Rattle.parse.specs.Scan.{consumedOf, followed};
-ghost use Rattle.parse.specs.Inner.{NoBlock, Told, Free, FreeFrom};
+ghost use Rattle.parse.specs.Inner.{NoBlock, Barred, Free, FreeFrom};
 
 // How many bytes a link consumes, and what is told of blocks behind them: 0 where nothing is; else none begins there, and 2 where what
 // starts a target was read to learn that.
@@ -61,16 +61,14 @@ fn is_marked(marks: &[u8], from: usize, n: usize) -> bool
 }
 
 // Whether a block is to be read at place n: what starts a target stands there, and it is not marked that none begins.
-pub fn may_begin(s: &[u8], n: usize, skipped: usize, marks: &[u8], marked: bool) -> bool
+pub fn may_begin(s: &[u8], n: usize, skipped: usize, marks: &[u8]) -> bool
     requires place { ⌜ n ≤ length (now s) ⌝ }
-    requires known { ⌜ Told marked skipped (now marks) (now s) ⌝ }
+    requires known { ⌜ Barred skipped (now marks) (now s) ⌝ }
     ensures { λ r. ⌜ (r ≡ false → NoBlock (drop n (now (s .entry)))) ⌝ }
 {
     if starts_target(&s[n..]) {
-        if marked {
-            if is_marked(marks, skipped, n) {
-                return false;
-            }
+        if is_marked(marks, skipped, n) {
+            return false;
         }
         return true;
     }
@@ -79,21 +77,14 @@ pub fn may_begin(s: &[u8], n: usize, skipped: usize, marks: &[u8], marked: bool)
 
 // How many bytes a link of n bytes consumes with the destination block that stands directly behind it, if one does. What stands
 // in the first n bytes of the scratch stays.
-fn with_unreported(
-    s: &[u8],
-    n: usize,
-    skipped: usize,
-    scratch: &mut [u8],
-    marks: &[u8],
-    marked: bool,
-) -> Reach
+fn with_unreported(s: &[u8], n: usize, skipped: usize, scratch: &mut [u8], marks: &[u8]) -> Reach
     requires room { ⌜ (n ≤ length (now s)) × (length (now s) ≤ length (now scratch)) ⌝ }
-    requires known { ⌜ Told marked skipped (now marks) (now s) ⌝ }
+    requires known { ⌜ Barred skipped (now marks) (now s) ⌝ }
     ensures consumed { λ r. ⌜ r .consumed ≡ n + consumedOf (tried (rst .unreported) (drop n (now (s .entry)))) ⌝ }
     ensures kept { λ r. ⌜ take n (now (scratch .exit)) ≡ take n (now (scratch .entry)) ⌝ }
     ensures free { λ r. ⌜ Free (r .free) (drop (r .consumed) (now (s .entry))) ⌝ }
 {
-    if may_begin(s, n, skipped, marks, marked) {
+    if may_begin(s, n, skipped, marks) {
         return match rst_target(&s[n..], &mut scratch[n..]) {
             Definition::Alias(_, _, _) => Reach {
                 consumed: n,
@@ -120,16 +111,16 @@ fn with_unreported(
 }
 
 // An anonymous embedded link, else a named one.
-pub fn embedded(s: &[u8], skipped: usize, scratch: &mut [u8], marks: &[u8], marked: bool) -> Answer
+pub fn embedded(s: &[u8], skipped: usize, scratch: &mut [u8], marks: &[u8]) -> Answer
     requires room { ⌜ length (now s) ≤ length (now scratch) ⌝ }
-    requires known { ⌜ Told marked skipped (now marks) (now s) ⌝ }
+    requires known { ⌜ Barred skipped (now marks) (now s) ⌝ }
     ensures scan { λ r. ⌜ scannedOf (r .scan) (now (scratch .exit)) ≡ behind skipped (followed rst (now (s .entry)) (tried (rst .embedded) (now (s .entry)))) ⌝ }
     ensures ends { λ r. ⌜ Ends (r .scan) ⌝ }
     ensures free { λ r. ⌜ FreeFrom skipped (now (s .entry)) r ⌝ }
 {
     match rst_text2dest(s, scratch) {
         Strings::Found(a, b, n) => {
-            let m = with_unreported(s, n, skipped, scratch, marks, marked);
+            let m = with_unreported(s, n, skipped, scratch, marks);
             let scan = Scan::Found(Link::Text2Dest(a, b, skipped, m.consumed));
             return Answer { scan, free: m.free };
         }
@@ -141,7 +132,7 @@ pub fn embedded(s: &[u8], skipped: usize, scratch: &mut [u8], marks: &[u8], mark
     }
     match rst_text_label2dest(s, scratch) {
         Strings::Found(a, b, n) => {
-            let m = with_unreported(s, n, skipped, scratch, marks, marked);
+            let m = with_unreported(s, n, skipped, scratch, marks);
             let scan = Scan::Found(Link::TextLabel2Dest(a, b, skipped, m.consumed));
             Answer { scan, free: m.free }
         }
@@ -157,16 +148,16 @@ pub fn embedded(s: &[u8], skipped: usize, scratch: &mut [u8], marks: &[u8], mark
 }
 
 // A reference.
-pub fn reference(s: &[u8], skipped: usize, scratch: &mut [u8], marks: &[u8], marked: bool) -> Answer
+pub fn reference(s: &[u8], skipped: usize, scratch: &mut [u8], marks: &[u8]) -> Answer
     requires room { ⌜ length (now s) ≤ length (now scratch) ⌝ }
-    requires known { ⌜ Told marked skipped (now marks) (now s) ⌝ }
+    requires known { ⌜ Barred skipped (now marks) (now s) ⌝ }
     ensures scan { λ r. ⌜ scannedOf (r .scan) (now (scratch .exit)) ≡ behind skipped (followed rst (now (s .entry)) (tried (rst .references) (now (s .entry)))) ⌝ }
     ensures ends { λ r. ⌜ Ends (r .scan) ⌝ }
     ensures free { λ r. ⌜ FreeFrom skipped (now (s .entry)) r ⌝ }
 {
     match rst_text2label(s, scratch) {
         Strings::Found(a, b, n) => {
-            let m = with_unreported(s, n, skipped, scratch, marks, marked);
+            let m = with_unreported(s, n, skipped, scratch, marks);
             let scan = Scan::Found(Link::Text2Label(a, b, skipped, m.consumed));
             Answer { scan, free: m.free }
         }

@@ -50,13 +50,12 @@ pub enum Scan {
 }
 
 // What is known from a place on: before `shut` no backtick begins a part that is closed, before `barren` none begins an embedded link,
-// before `blocks` no block begins; and if `marked`, none begins at a place that is marked. `failed` counts the blocks that were read and
-// are none, up to 8: no claim is made of it.
+// before `blocks` no block begins. `failed` counts the blocks that were read and are none, up to 8, and is 9 once the places at which none
+// begins are marked: no claim is made of it.
 pub struct Known {
     pub shut: usize,
     pub barren: usize,
     pub blocks: usize,
-    pub marked: bool,
     pub failed: usize,
 }
 
@@ -85,7 +84,6 @@ pub fn take_link(s: &[u8], scratch: &mut [u8]) -> Scan
         shut: 0,
         barren: 0,
         blocks: 0,
-        marked: false,
         failed: 0,
     };
     let mut marks = [0u8; 1];
@@ -93,28 +91,20 @@ pub fn take_link(s: &[u8], scratch: &mut [u8]) -> Scan
     next.scan
 }
 
-// Marks the places at which no block begins, if 8 blocks were read that are none and there are marks for the whole text. What was known
-// is known then too.
+// Marks the places at which no block begins, once 8 blocks were read that are none. What was known is known then too.
 fn marking(s: &[u8], marks: &mut [u8], known: Known) -> Known
     ensures { λ r. ⌜ ((i : ℕ) → Holds i known (now (marks .entry)) (now (s .entry)) → Holds i r (now (marks .exit)) (now (s .entry))) ⌝ }
 {
-    if known.marked {
-        return known;
+    if known.failed == 8 {
+        mark(s, marks);
+        return Known {
+            shut: known.shut,
+            barren: known.barren,
+            blocks: known.blocks,
+            failed: 9,
+        };
     }
-    if known.failed < 8 {
-        return known;
-    }
-    if marks.len() < s.len() {
-        return known;
-    }
-    let marked = mark(s, marks);
-    Known {
-        shut: known.shut,
-        barren: known.barren,
-        blocks: known.blocks,
-        marked,
-        failed: known.failed,
-    }
+    known
 }
 
 // The same where something is known; what is known behind the link is handed back. It is `iterator` that goes from link to link so. This

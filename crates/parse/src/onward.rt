@@ -49,7 +49,6 @@ fn known_from(known: Known, n: usize, free: usize, failed: usize) -> Known
 {
     let shut = place_from(known.shut, n);
     let barren = place_from(known.barren, n);
-    let marked = known.marked;
     let mut failed = failed;
     if free == 2 {
         failed = counted(failed);
@@ -59,7 +58,6 @@ fn known_from(known: Known, n: usize, free: usize, failed: usize) -> Known
             shut,
             barren,
             blocks: 1,
-            marked,
             failed,
         };
     }
@@ -67,7 +65,6 @@ fn known_from(known: Known, n: usize, free: usize, failed: usize) -> Known
         shut,
         barren,
         blocks: 0,
-        marked,
         failed,
     }
 }

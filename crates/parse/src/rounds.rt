@@ -38,7 +38,7 @@ ghost use Rattle.parse.specs.Scan.{
   roundOf,
   later,
 };
-ghost use Rattle.parse.specs.Inner.{Shut, Barren, Told, Holds, FreeBehind, stepOf, StepEnds, StepHolds};
+ghost use Rattle.parse.specs.Inner.{Shut, Barren, Barred, Holds, FreeBehind, stepOf, StepEnds, StepHolds};
 
 // A round's answer: the scan's, what is told of blocks behind the link, and how many were read that are none; or the place where the next
 // round starts, and what is known from there on.
@@ -83,7 +83,7 @@ fn is_read(s: &[u8], i: usize, line: bool, marks: &[u8], known: Known) -> bool
         if i < known.blocks {
             return false;
         }
-        return may_begin(s, i, 0, marks, known.marked);
+        return may_begin(s, i, 0, marks);
     }
     false
 }
@@ -109,7 +109,6 @@ fn missed(known: Known, read: bool) -> Known
             shut: known.shut,
             barren: known.barren,
             blocks: known.blocks,
-            marked: known.marked,
             failed: counted(known.failed),
         };
     }
@@ -124,16 +123,9 @@ fn is_opening(b: u8) -> bool
 }
 
 // (e) A reference, behind one of these if there is one.
-fn reference_at(
-    s: &[u8],
-    i: usize,
-    scratch: &mut [u8],
-    marks: &[u8],
-    spaced: bool,
-    marked: bool,
-) -> Answer
+fn reference_at(s: &[u8], i: usize, scratch: &mut [u8], marks: &[u8], spaced: bool) -> Answer
     requires room { ⌜ (i < length (now s)) × (length (now s) ≤ length (now scratch)) ⌝ }
-    requires known { ⌜ Told marked 0 (now marks) (now s) ⌝ }
+    requires known { ⌜ Barred 0 (now marks) (now s) ⌝ }
     ensures scan { λ r. ⌜ scannedOf (r .scan) (now (scratch .exit)) ≡ behind i (followed rst (drop i (now (s .entry))) (referenceAt rst spaced (drop i (now (s .entry))))) ⌝ }
     ensures ends { λ r. ⌜ Ends (r .scan) ⌝ }
     ensures free { λ r. ⌜ FreeBehind (now (s .entry)) (r .free) (r .scan) ⌝ }
@@ -142,9 +134,9 @@ fn reference_at(
         let b = s[i];
         if is_opening(b) {
             let j = i + 1;
-            return reference(&s[j..], j, scratch, marks, marked);
+            return reference(&s[j..], j, scratch, marks);
         }
-        return reference(&s[i..], i, scratch, marks, marked);
+        return reference(&s[i..], i, scratch, marks);
     }
     Answer {
         scan: Scan::NotFound,
@@ -153,21 +145,14 @@ fn reference_at(
 }
 
 // (d) and (e) at a backtick.
-fn inline_at(
-    s: &[u8],
-    i: usize,
-    scratch: &mut [u8],
-    marks: &[u8],
-    spaced: bool,
-    marked: bool,
-) -> Answer
+fn inline_at(s: &[u8], i: usize, scratch: &mut [u8], marks: &[u8], spaced: bool) -> Answer
     requires room { ⌜ (i < length (now s)) × (length (now s) ≤ length (now scratch)) ⌝ }
-    requires known { ⌜ Told marked 0 (now marks) (now s) ⌝ }
+    requires known { ⌜ Barred 0 (now marks) (now s) ⌝ }
     ensures scan { λ r. ⌜ scannedOf (r .scan) (now (scratch .exit)) ≡ behind i (inlineAt rst spaced (drop i (now (s .entry)))) ⌝ }
     ensures ends { λ r. ⌜ Ends (r .scan) ⌝ }
     ensures free { λ r. ⌜ FreeBehind (now (s .entry)) (r .free) (r .scan) ⌝ }
 {
-    let found = embedded(&s[i..], i, scratch, marks, marked);
+    let found = embedded(&s[i..], i, scratch, marks);
     let scan = found.scan;
     match scan {
         Scan::Found(_) => {
@@ -178,7 +163,7 @@ fn inline_at(
             return found;
         }
     }
-    reference_at(s, i, scratch, marks, spaced, marked)
+    reference_at(s, i, scratch, marks, spaced)
 }
 
 // (f) One of the bytes at which a link may start.
@@ -270,12 +255,11 @@ fn backtick_round(
             shut,
             barren: known.barren,
             blocks: known.blocks,
-            marked: known.marked,
             failed: known.failed,
         };
         return Step::Passes(passed(s, i), known);
     }
-    let found = inline_at(s, i, scratch, marks, spaced, known.marked);
+    let found = inline_at(s, i, scratch, marks, spaced);
     let scan = found.scan;
     match scan {
         Scan::Found(_) => Step::Stops(scan, found.free, known.failed),
@@ -285,7 +269,6 @@ fn backtick_round(
                 shut,
                 barren: i + n,
                 blocks: known.blocks,
-                marked: known.marked,
                 failed: known.failed,
             };
             Step::Passes(passed(s, i), known)
@@ -315,7 +298,7 @@ fn text_round(
     if may_embed(s, i, known.barren) {
         return backtick_round(s, i, scratch, marks, spaced, known);
     }
-    let found = reference_at(s, i, scratch, marks, spaced, known.marked);
+    let found = reference_at(s, i, scratch, marks, spaced);
     let scan = found.scan;
     match scan {
         Scan::Found(_) => Step::Stops(scan, found.free, known.failed),

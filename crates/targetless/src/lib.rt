@@ -12,7 +12,6 @@ use crate::candidate::free_at;
 use crate::line::began;
 use crate::line::stepped;
 ghost use mathlib.Core.Path.{_≡_};
-ghost use mathlib.Core.Bool.{true};
 ghost use lib.ListN.{length, replicate};
 ghost use Rattle.targetless.specs.Targetless.{Marks};
 
@@ -47,14 +46,14 @@ fn clear(marks: &mut [u8])
     }
 }
 
-// Marks places of s at which no target starts with 1, and others with 0; or, where the marks are fewer than the bytes of s, says no.
-pub fn mark(s: &[u8], marks: &mut [u8]) -> bool
-    ensures { λ r. ⌜ (r ≡ true → Marks (now (marks .exit)) (now (s .entry))) ⌝ }
+// Marks places of s at which no target starts with 1, and others with 0; where the marks are fewer than the bytes of s, all with 0.
+pub fn mark(s: &[u8], marks: &mut [u8])
+    ensures { λ _. ⌜ Marks (now (marks .exit)) (now (s .entry)) ⌝ }
 {
-    if marks.len() < s.len() {
-        return false;
-    }
     clear(marks);
+    if marks.len() < s.len() {
+        return;
+    }
     let mut i = s.len();
     let mut walk = began(s);
     while 0 < i {
@@ -67,5 +66,4 @@ pub fn mark(s: &[u8], marks: &mut [u8]) -> bool
         walk = next;
         i = e;
     }
-    true
 }

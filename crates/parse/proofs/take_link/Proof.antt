@@ -1,6 +1,5 @@
 -- `take_link` meets its contract: it is that of `next_link`, and nothing is known yet.
 -- Assumes nothing.
-use mathlib.Core.List.{[], _∷_}
 use borrow.Author.Needs.{needs}
 use Rattle.parse.proofs.OnwardLaws.{holds-nothing}
 use Rattle.parse.proofs.take_link.Statement.{statement}
@@ -10,7 +9,7 @@ slice-aggregate-next-link : tie.Need-slice-aggregate-next-link
 slice-aggregate-next-link c = search needs
 
 next-link-requires : tie.Need-next-link-requires
-next-link-requires c κs = holds-nothing (c .before .before .before .before .args .s .now) (0 ∷ []) 0
+next-link-requires c κs = holds-nothing (c .before .before .before .before .args .s .now) 0 1
 
 same-length : tie.Need-same-length
 same-length c = search needs

@@ -2,7 +2,6 @@
 -- Assumes nothing.
 use Prim.Native.Nat.{_≤_}
 use mathlib.Core.Path.{_≡_, refl, subst⁻¹, ap, _∙_}
-use mathlib.Core.Bool.{false≢true}
 use native.Mathlib.Omega.{arith}
 use borrow.Author.Needs.{needs}
 use lib.ListN.{length, length-set, length-replicate}
@@ -18,17 +17,25 @@ Inv-loop s marks₀ i₀ walk₀ marks i walk = (i ≤ length s) × (length mark
 abbrev μ-loop : tie.MeasureT-loop
 μ-loop s marks₀ i₀ walk₀ marks i walk = i
 
-returns : tie.Need-returns Inv-loop μ-loop
-returns c = λ e. absurd (false≢true e)
-
 clear-requires : tie.Need-clear-requires Inv-loop μ-loop
 clear-requires c κs = search needs
+
+same-length : tie.Need-same-length Inv-loop μ-loop
+same-length c = ap length (c .before .before .before .clear .ensures) ∙ length-replicate _ _
+
+returns : tie.Need-returns Inv-loop μ-loop
+returns c =
+    let w = c .before .before .before .before .before .before .before .args in
+    subst⁻¹ (λ l. Marks l (w .s .now)) (c .before .before .before .clear .ensures) (marks-none (length (w .marks .now)) (w .s .now))
 
 began-requires : tie.Need-began-requires Inv-loop μ-loop
 began-requires c κs = search needs
 
 loop-holds : tie.Need-loop-holds Inv-loop μ-loop
-loop-holds c = (omega arith, refl, c .began .ensures, subst⁻¹ (λ n. length (c .before .before .before .before .before .before .before .before .args .s .now) ≤ n) (ap length (c .before .before .before .clear .ensures) ∙ length-replicate _ _) (c .before .before .before .before .before .if1 .left), subst⁻¹ (λ l. Marks l (c .before .before .before .before .before .before .before .before .args .s .now)) (c .before .before .before .clear .ensures) (marks-none (length (c .before .before .before .before .before .before .before .before .args .marks .now)) (c .before .before .before .before .before .before .before .before .args .s .now)))
+loop-holds c =
+    let w = c .before .before .before .before .before .before .before .before .args in
+    let e = c .before .before .before .before .clear .ensures in
+    (omega arith, refl, c .began .ensures, c .before .if1 .left, subst⁻¹ (λ l. Marks l (w .s .now)) e (marks-none (length (w .marks .now)) (w .s .now)))
 
 sub-e : tie.Need-sub-e Inv-loop μ-loop
 sub-e c = omega arith
@@ -59,11 +66,11 @@ loop-less-2 c = omega arith
 loop-again-2 : tie.Need-loop-again-2 Inv-loop μ-loop
 loop-again-2 c = (omega arith, c .before .before .before .before .loop .inv .1, c .before .before .stepped .ensures, c .before .before .before .before .loop .inv .3, c .before .before .before .before .loop .inv .4)
 
-same-length : tie.Need-same-length Inv-loop μ-loop
-same-length c = c .before .loop .inv .1 ∙ ap length (c .before .before .before .before .before .clear .ensures) ∙ length-replicate _ _
+same-length-2 : tie.Need-same-length-2 Inv-loop μ-loop
+same-length-2 c = c .before .loop .inv .1 ∙ ap length (c .before .before .before .before .before .before .clear .ensures) ∙ length-replicate _ _
 
 returns-2 : tie.Need-returns-2 Inv-loop μ-loop
-returns-2 c = λ e. c .before .loop .inv .4
+returns-2 c = c .before .loop .inv .4
 
 pub mark-spec : {M : Type 1} → statement M
 mark-spec =
@@ -71,8 +78,9 @@ mark-spec =
     (tie.spec
     Inv-loop
     μ-loop
-    returns
     clear-requires
+    same-length
+    returns
     began-requires
     loop-holds
     sub-e
@@ -83,5 +91,5 @@ mark-spec =
     loop-again
     loop-less-2
     loop-again-2
-    same-length
+    same-length-2
     returns-2)

@@ -13,10 +13,9 @@ use Rattle.parse.proofs.OnwardLaws.{holds-nothing}
 use Rattle.rst_bytes.proofs.Lists.{part-from}
 use borrow.Author.Needs.{needs}
 use borrow.Rule.Slice.PartMut.{same-len-mid}
-use lib.ListN.{length, take, drop, length-replicate}
+use lib.ListN.{length, take, drop, replicate, length-replicate}
 use native.Mathlib.Omega.{arith}
-use mathlib.Core.List.{List, []}
-use mathlib.Core.Bool.{true≢false}
+use mathlib.Core.List.{List}
 use mathlib.Core.Path.{_≡_, refl, sym, ap, subst, subst⁻¹, _∙_}
 use Prim.Native.Nat.{ℕ, _-_, _≤_}
 use Rattle.iterator.proofs.collect.collect.Statement.{statement}
@@ -42,9 +41,8 @@ new-requires c κs = search needs
 loop-holds : tie.Need-loop-holds Inv-loop μ-loop
 loop-holds c = let w = c .before .before .before .before .args in
     let e = c .new .ensures in
-    let v = holds-nothing (drop (c .new .result .at) (w .document .now)) [] 0 in
     let s = w .document .now in
-    (refl, refl, subst (Held 0 0 (w .numbers .now)) (sym e) (start-held (w .numbers .now)), omega (arith, ap (λ (z : MarkupLinkCollection). z .at) e), start-goes (w .render) s (w .numbers .now) (w .bytes .now) ∙ ap (λ (z : MarkupLinkCollection). collectFrom (w .render) s (collectionOf s (w .numbers .now) (w .bytes .now) z) (linksFrom rst 0 (z .at) (drop (z .at) s))) (sym e), (v .0, v .1, v .2, λ g. absurd (true≢false (sym g))), length-replicate {A = ℕ} 16384 0)
+    (refl, refl, subst (Held 0 0 (w .numbers .now)) (sym e) (start-held (w .numbers .now)), omega (arith, ap (λ (z : MarkupLinkCollection). z .at) e), start-goes (w .render) s (w .numbers .now) (w .bytes .now) ∙ ap (λ (z : MarkupLinkCollection). collectFrom (w .render) s (collectionOf s (w .numbers .now) (w .bytes .now) z) (linksFrom rst 0 (z .at) (drop (z .at) s))) (sym e), subst⁻¹ (λ (z : MarkupLinkCollection). Holds 0 (record { shut = 0; barren = 0; blocks = 0; failed = 0 }) (drop (z .at) (replicate 16384 0)) (drop (z .at) s)) e (holds-nothing s 0 16384), length-replicate {A = ℕ} 16384 0)
 
 sub-next-link : tie.Need-sub-next-link Inv-loop μ-loop
 sub-next-link c = omega (arith, c .before .before .loop .inv .3)

@@ -1,5 +1,4 @@
--- `forms::may_begin` meets its contract: where nothing starts a target no block begins, nor at a place that is marked, if it is told that
--- these are.
+-- `forms::may_begin` meets its contract: where nothing starts a target no block begins, nor at a place that is marked.
 -- Assumes nothing.
 use mathlib.Core.Path.{sym, _∙_}
 use mathlib.Core.Bool.{true≢false}
@@ -24,16 +23,13 @@ is-marked-requires : tie.Need-is-marked-requires
 is-marked-requires c κs = search needs
 
 returns : tie.Need-returns
-returns c = λ e. c .before .before .before .before .before .before .before .before .pre .1 (c .before .before .if2 .taken) (c .before .before .before .before .before .before .before .before .args .n) (c .before .is-marked .ensures (c .if3 .taken))
+returns c = λ e. c .before .before .before .before .before .before .before .pre .1 (c .before .before .before .before .before .before .before .args .n) (c .before .is-marked .ensures (c .if2 .taken))
 
 returns-2 : tie.Need-returns-2
 returns-2 c = λ e. absurd (true≢false e)
 
 returns-3 : tie.Need-returns-3
-returns-3 c = λ e. absurd (true≢false e)
-
-returns-4 : tie.Need-returns-4
-returns-4 c = λ e. unstarted (c .before .before .before .before .before .args .s .now) (c .before .before .before .before .before .args .n) (sym (c .before .starts-target .ensures) ∙ c .if1 .left)
+returns-3 c = λ e. unstarted (c .before .before .before .before .before .args .s .now) (c .before .before .before .before .before .args .n) (sym (c .before .starts-target .ensures) ∙ c .if1 .left)
 
 pub may-begin-spec : {M : Type 1} → statement M
 may-begin-spec =
@@ -46,5 +42,4 @@ may-begin-spec =
     is-marked-requires
     returns
     returns-2
-    returns-3
-    returns-4)
+    returns-3)

@@ -41,8 +41,8 @@ enum-told c = search needs
 enum-known-m : tie.Need-enum-known-m
 enum-known-m c = search needs
 
-add-t19 : tie.Need-add-t19
-add-t19 c = let s = c .before .before .before .before .before .before .before .before .before .before .before .before .before in
+add-t18 : tie.Need-add-t18
+add-t18 c = let s = c .before .before .before .before .before .before .before .before .before .before .before .before .before in
     let x = c .before .before .before .before .before .rst-target in
     let e = unreported-answered (s .args .s .now) (s .args .n) (s .args .scratch .now) (x .last .1 .0) (x .result) _ (s .pre .0) (x .ensures .0) (x .ensures .1 .0) (c .before .m .given .1) in
     omega (arith, unreported-le (s .args .s .now) (s .args .n) _ _ _ (s .pre .0 .0) (e .1))
@@ -108,7 +108,7 @@ with-unreported-spec =
     rst-target-requires
     enum-told
     enum-known-m
-    add-t19
+    add-t18
     enum-told-2
     enum-told-3
     same-length

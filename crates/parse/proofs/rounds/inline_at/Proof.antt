@@ -8,7 +8,7 @@ use Rattle.rst_bytes.proofs.Lists.{part-from}
 use Rattle.parse.specs.Link.{behind}
 use Rattle.parse.specs.Forms.{tried, rst}
 use Rattle.parse.specs.Scan.{followed}
-use Rattle.parse.proofs.BarredLaws.{told-part, part-room}
+use Rattle.parse.proofs.BarredLaws.{barred-part, part-room}
 use Rattle.parse.proofs.RoundLaws.{inline-embedded, inline-reference, inline-room}
 use borrow.Author.Needs.{needs}
 use Rattle.parse.proofs.rounds.inline_at.Statement.{statement}
@@ -26,7 +26,7 @@ part-embedded-end c = search needs
 embedded-requires : tie.Need-embedded-requires
 embedded-requires c κs =
     let w = c .before .before .before .before .before in
-    (part-room (w .args .i) (w .args .s .now) (w .args .scratch .now) (w .pre .0 .1), told-part (w .args .marked) (w .args .marks .now) (w .args .s .now) (w .pre .1) (w .args .i) _ (part-from (w .args .s .now) (w .args .i)))
+    (part-room (w .args .i) (w .args .s .now) (w .args .scratch .now) (w .pre .0 .1), barred-part (w .args .marks .now) (w .args .s .now) (w .pre .1) (w .args .i) _ (part-from (w .args .s .now) (w .args .i)))
 
 enum-told : tie.Need-enum-told
 enum-told c = search needs

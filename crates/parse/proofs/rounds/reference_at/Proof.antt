@@ -10,7 +10,7 @@ use Rattle.rst_bytes.proofs.Lists.{part-from}
 use Rattle.parse.specs.Link.{behind}
 use Rattle.parse.specs.Forms.{tried, rst}
 use Rattle.parse.specs.Scan.{referenceAt, followed}
-use Rattle.parse.proofs.BarredLaws.{told-part, part-room}
+use Rattle.parse.proofs.BarredLaws.{barred-part, part-room}
 use Rattle.parse.proofs.RoundLaws.{reference-opened, reference-plain}
 use borrow.Author.Needs.{needs}
 use Rattle.parse.proofs.rounds.reference_at.Statement.{statement}
@@ -37,7 +37,7 @@ part-reference-end c = search needs
 reference-requires : tie.Need-reference-requires
 reference-requires c κs =
     let w = c .before .before .before .before .before .before .before .before .before in
-    (part-room (w .args .i + 1) (w .args .s .now) (w .args .scratch .now) (w .pre .0 .1), told-part (w .args .marked) (w .args .marks .now) (w .args .s .now) (w .pre .1) (w .args .i + 1) _ (part-from (w .args .s .now) (w .args .i + 1)))
+    (part-room (w .args .i + 1) (w .args .s .now) (w .args .scratch .now) (w .pre .0 .1), barred-part (w .args .marks .now) (w .args .s .now) (w .pre .1) (w .args .i + 1) _ (part-from (w .args .s .now) (w .args .i + 1)))
 
 same-length : tie.Need-same-length
 same-length c = search needs
@@ -64,7 +64,7 @@ part-reference-end-2 c = search needs
 reference-requires-2 : tie.Need-reference-requires-2
 reference-requires-2 c κs =
     let w = c .before .before .before .before .before .before .before .before .before in
-    (part-room (w .args .i) (w .args .s .now) (w .args .scratch .now) (w .pre .0 .1), told-part (w .args .marked) (w .args .marks .now) (w .args .s .now) (w .pre .1) (w .args .i) _ (part-from (w .args .s .now) (w .args .i)))
+    (part-room (w .args .i) (w .args .s .now) (w .args .scratch .now) (w .pre .0 .1), barred-part (w .args .marks .now) (w .args .s .now) (w .pre .1) (w .args .i) _ (part-from (w .args .s .now) (w .args .i)))
 
 same-length-2 : tie.Need-same-length-2
 same-length-2 c = search needs
