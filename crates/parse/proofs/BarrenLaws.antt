@@ -131,6 +131,16 @@ barren-opened : (s : List ℕ) (n : ℕ) → taking 0x60 0x3C false 0 s ≡ Take
 barren-opened s n e h f o i k l g =
     ap (tried (rst .embedded)) (at-tick s i (omega arith) g) ∙ unlinked (0x60 ∷ drop (suc i) s) (tick-opened s n i e l g h f o)
 
+-- none begins at the front, a backtick, if an unescaped one stands before the first <
+pub unbracketed-none :
+    (s : List ℕ) (n : ℕ) → (0 < length s) × (getD s 0 0 ≡ 0x60) → taking 0x60 0x3C false 0 (drop 1 s) ≡ Taken n → n + 1 < length s → getD s (n + 1) 0 ≡ 0x60
+    → NoLink s
+unbracketed-none s n h e l f =
+    let z : 1 + n ≡ n + 1 = omega arith in
+    ap (tried (rst .embedded)) (at-tick s 0 (h .0) (h .1))
+    ∙ unlinked (0x60 ∷ drop 1 s)
+    (embedded-unbracketed (drop 1 s) n e (omega (arith, length-drop 1 s)) (getD-drop 1 s n 0 ∙ ap (λ (j : ℕ). getD s j 0) z ∙ f))
+
 -- A text that begins with a backtick, at which no link begins.
 module _ (s : List ℕ) (h : (0 < length s) × (getD s 0 0 ≡ 0x60)) (none-there : NoLink s) where
   pub barren-first : (n : ℕ) → taking 0x60 0x3C false 0 (drop 1 s) ≡ Taken n → Barren 0 (n + 1) s

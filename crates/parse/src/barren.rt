@@ -30,6 +30,27 @@ fn marked(s: &[u8]) -> Part
     escaped(s, b'`', b'<')
 }
 
+// Whether an embedded link may begin at the first byte, a backtick: no unescaped backtick stands before the first unescaped `<`.
+pub fn is_bracketed(s: &[u8]) -> bool
+    requires { ⌜ (0 < length (now s)) × (getD (now s) 0 0 ≡ 0x60) ⌝ }
+    ensures { λ r. ⌜ (r ≡ false → tried (rst .embedded) (now (s .entry)) ≡ nothing) ⌝ }
+{
+    match marked(&s[1..]) {
+        Part::Taken(n) => {
+            let j = n + 1;
+            if s.len() <= j {
+                return true;
+            }
+            let b = s[j];
+            if b == b'`' {
+                return false;
+            }
+            true
+        }
+        Part::Refused => true,
+    }
+}
+
 // Whether the first unescaped backtick or `<` is `<`.
 fn is_opened(s: &[u8]) -> bool
     ensures { λ r. ⌜ (r ≡ true → Opened (now (s .entry))) ⌝ }

@@ -7,6 +7,7 @@ use crate::Known;
 use crate::Scan;
 use crate::backtick::unclosed;
 use crate::barren::barren;
+use crate::barren::is_bracketed;
 use crate::forms::Answer;
 use crate::forms::block;
 use crate::forms::embedded;
@@ -144,15 +145,34 @@ fn reference_at(s: &[u8], i: usize, scratch: &mut [u8], marks: &[u8], spaced: bo
     }
 }
 
+// (d) at a backtick.
+fn embedded_at(s: &[u8], i: usize, scratch: &mut [u8], marks: &[u8]) -> Answer
+    requires room { ⌜ (i < length (now s)) × (length (now s) ≤ length (now scratch)) ⌝ }
+    requires tick { ⌜ getD (now s) i 0 ≡ 0x60 ⌝ }
+    requires known { ⌜ Barred 0 (now marks) (now s) ⌝ }
+    ensures scan { λ r. ⌜ scannedOf (r .scan) (now (scratch .exit)) ≡ behind i (followed rst (drop i (now (s .entry))) (tried (rst .embedded) (drop i (now (s .entry))))) ⌝ }
+    ensures ends { λ r. ⌜ Ends (r .scan) ⌝ }
+    ensures free { λ r. ⌜ FreeBehind (now (s .entry)) (r .free) (r .scan) ⌝ }
+{
+    if is_bracketed(&s[i..]) {
+        return embedded(&s[i..], i, scratch, marks);
+    }
+    Answer {
+        scan: Scan::NotFound,
+        free: 0,
+    }
+}
+
 // (d) and (e) at a backtick.
 fn inline_at(s: &[u8], i: usize, scratch: &mut [u8], marks: &[u8], spaced: bool) -> Answer
     requires room { ⌜ (i < length (now s)) × (length (now s) ≤ length (now scratch)) ⌝ }
+    requires tick { ⌜ getD (now s) i 0 ≡ 0x60 ⌝ }
     requires known { ⌜ Barred 0 (now marks) (now s) ⌝ }
     ensures scan { λ r. ⌜ scannedOf (r .scan) (now (scratch .exit)) ≡ behind i (inlineAt rst spaced (drop i (now (s .entry)))) ⌝ }
     ensures ends { λ r. ⌜ Ends (r .scan) ⌝ }
     ensures free { λ r. ⌜ FreeBehind (now (s .entry)) (r .free) (r .scan) ⌝ }
 {
-    let found = embedded(&s[i..], i, scratch, marks);
+    let found = embedded_at(s, i, scratch, marks);
     let scan = found.scan;
     match scan {
         Scan::Found(_) => {
