@@ -130,8 +130,8 @@ extern "C" {
 /* Bytes of stack that a call takes at most, on every document: the longest way
  * through the archive's code. A thread needs so much beside what its own functions,
  * memcpy and memset take. */
-#define RST_DOCUMENT_STACK 2048
-#define RST_TAKE_LINK_STACK 18432
+#define RST_DOCUMENT_STACK 20480
+#define RST_TAKE_LINK_STACK 20480
 
 /* What is returned as number. Both calls check in the order in which their
  * refusals stand here, from the top; RST_TOO_MANY_LINKS and

@@ -101,7 +101,7 @@ fn spaced(piece: &str, links: usize, text: &str, len: usize) -> Vec<u8> {
     piece.into_iter().cycle().take(len).collect()
 }
 
-pub const INPUTS: [Input; 29] = [
+pub const INPUTS: [Input; 30] = [
     grown!("plain prose", Some(0.1), |n| repeated(PROSE, n)),
     single!("a short note", Some(0.2), NOTES),
     grown!("250 references with targets", Some(0.2), referred),
@@ -168,4 +168,8 @@ pub const INPUTS: [Input; 29] = [
         None,
         |n| { spaced("\n    a_ .. ", 1, "words ", n) }
     ),
+    grown!("250 references before '.. _' of two indents", None, |n| {
+        let line = repeated("a_ .. _b a_  .. _b ", n / 7);
+        between(&String::from_utf8_lossy(&line), "\n     x", "", n)
+    }),
 ];

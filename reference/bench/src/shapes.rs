@@ -71,7 +71,13 @@ const APART: usize = 66;
 #[derive(Clone, Copy)]
 pub struct Head(Option<Token>, &'static str);
 
-pub const HEADS: [Head; 15] = [
+/// Links before blocks whose names do not end, as many as are read before it is marked where no block begins.
+const UNNAMED: &str = "a_ .. _b a_ .. _b a_ .. _b a_ .. _b a_ .. _b a_ .. _b a_ .. _b a_ .. _b ";
+
+/// The same with blocks that a wrong escape refuses, where one stands in the tail.
+const REFUSED: &str = "a_ __ x a_ __ x a_ __ x a_ __ x a_ __ x a_ __ x a_ __ x a_ __ x ";
+
+pub const HEADS: [Head; 17] = [
     Head(None, ""),
     Head(None, "`"),
     Head(None, "x`"),
@@ -80,6 +86,8 @@ pub const HEADS: [Head; 15] = [
     Head(None, ".. _a: "),
     Head(None, "a_"),
     Head(None, "`a <u>"),
+    Head(None, UNNAMED),
+    Head(None, REFUSED),
     Head(Some(Text("a_ ")), ""),
     Head(Some(Text("a_ ")), "\n.. _a: "),
     Head(Some(Text("__ ")), "\n__ "),
@@ -90,7 +98,7 @@ pub const HEADS: [Head; 15] = [
 ];
 
 /// How many heads are text alone.
-pub const SHORT_HEADS: usize = 8;
+pub const SHORT_HEADS: usize = 10;
 
 pub const TAILS: [&str; 9] = ["", "`_", "`__", " <u>`_", " <u>`__", "_", "\\x", "\\", "\n"];
 

@@ -273,6 +273,11 @@ pub fn all(count: &mut Count, met: &mut DocumentsMet) {
         }
         calls.end(count, met);
     }
+    let mut calls = Calls::new("all of up to four tokens of targets", &garbage, GUARD);
+    for doc in documents::headers() {
+        calls.document(&doc);
+    }
+    calls.end(count, met);
     let kinds = [
         (
             "bytes in and out of the domain",

@@ -57,6 +57,56 @@ const REFUSED: &[&str] = &[
     "`a <", "b", "\\_", "\\ ", "_", ">`_", ">`__", "__ ", ".. _c: ", "`c\\_`_", "\n   ",
 ];
 
+/// Eight blocks that begin like a target and are none: so many are read before it is
+/// marked where no target starts.
+const NO_TARGETS: &str = ".. _b\n.. _b\n.. _b\n.. _b\n.. _b\n.. _b\n.. _b\n.. _b\n";
+
+/// Links before what starts a target, with further lines.
+const HEADERS: &[&str] = &[
+    "a_", ".. _", "__ ", " ", "\n   ", "\n    ", "\n", ": ", "`", "b_", "\\x", "\\:",
+];
+
+/// The same with all that makes a target of it or not: what ends a name, escapes good
+/// and bad, indents, line ends.
+const TARGETS: [&str; 36] = [
+    "a_",
+    "a_",
+    "a_ ",
+    "`a <u>`_",
+    ".. _",
+    ".. _",
+    ".. _b: ",
+    ".. _`b`: ",
+    "__ ",
+    "__ ",
+    "_",
+    ":",
+    ": ",
+    "`",
+    "`: ",
+    "`_",
+    "``",
+    "b",
+    "c_",
+    "c_ ",
+    "\\",
+    "\\x",
+    "\\:",
+    "\\`",
+    "\\_",
+    "\\ ",
+    " ",
+    "  ",
+    "\t",
+    "\n",
+    "\n   ",
+    "\n    ",
+    "\n\t",
+    "\n \t   ",
+    "\r\n   ",
+    "\r",
+];
+
 /// Documents that reach branches that few do.
 const RARE: [&str; 9] = [
     "`a <\\_b>`_",
@@ -107,6 +157,11 @@ pub fn some_short(random: &mut Random) -> Vec<Vec<u8>> {
         list.extend((0..40).map(|_| sequences.get(random.draw() % sequences.count())));
     }
     list
+}
+
+/// All of up to so many tokens of headers, behind blocks that are no targets.
+pub fn headers() -> impl Iterator<Item = Vec<u8>> {
+    sequences(HEADERS, 4).map(|doc| [NO_TARGETS.as_bytes(), &doc].concat())
 }
 
 /// Bytes around the domain's limits, a part of all.
@@ -211,6 +266,20 @@ pub fn lines(random: &mut Random) -> Vec<u8> {
     doc.into_bytes()
 }
 
+/// Tokens of targets, or a generated document, behind blocks that are no targets.
+fn behind(random: &mut Random) -> Vec<u8> {
+    let mut doc = NO_TARGETS.as_bytes().to_vec();
+    if random.once_in(4) {
+        doc.extend(generate::document(random.draw(), true));
+    } else {
+        let most = *random.pick(&[6, 12, 12, 40, 200]);
+        for _ in 0..random.below(most) {
+            doc.extend(random.pick(&TARGETS).bytes());
+        }
+    }
+    doc
+}
+
 /// About as many links or definitions as there may be, of a few kinds, in any
 /// order.
 pub fn crowded(random: &mut Random) -> Vec<u8> {
@@ -279,12 +348,13 @@ pub struct Kind {
 }
 
 /// The kinds of drawn documents for the document call.
-pub const KINDS: [Kind; 8] = [
+pub const KINDS: [Kind; 9] = [
     kind("generated documents", 1, grown),
     kind("damaged copies of generated documents", 1, damaged),
     kind("drawn lines", 1, lines),
     kind("drawn from the forms of the parsers", 2, formed),
     kind("drawn tokens", 2, tokens),
+    kind("behind blocks that are no targets", 1, behind),
     kind("documents with a byte outside the domain", 8, grown_outside),
     kind("about as many links and definitions as may be", 50, crowded),
     kind("about as long as may be", 200, long),
