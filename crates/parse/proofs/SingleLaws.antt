@@ -2,7 +2,7 @@
 -- over; what the call answers. A scratch as long as the longest document is enough for the scanner and holds what it finds.
 -- Assumes nothing.
 use Prim.Native.Nat.{ℕ, _+_, _-_, _<_, _≤_}
-use mathlib.Core.Path.{_≡_, sym, ap, subst, _∙_}
+use mathlib.Core.Path.{_≡_, sym, ap, subst, subst⁻¹, _∙_}
 use mathlib.Core.Logic.{_⊎_, inl, inr}
 use mathlib.Core.List.{List, _++_}
 use mathlib.Core.Bool.{Bool, true, false, not, true≢false}
@@ -24,10 +24,10 @@ use Rattle.parse.specs.declared.Link.the-variants.{Text2Dest, TextLabel2
 use Rattle.parse.specs.declared.Scan.{Scan}
 use Rattle.parse.specs.declared.buffers.Handed.{Handed}
 use Rattle.parse.specs.declared.buffers.Handed.the-variants.{Both, TooShort}
-use Rattle.parse.specs.Link.{Kind, Scanned, found, linkOf, scannedOf, LinkEnds, lent}
+use Rattle.parse.specs.Link.{Kind, Scanned, found, text2dest, text-label2dest, text2label, label2dest, label2label, linkOf, scannedOf, LinkEnds, lent}
 use Rattle.parse.specs.Scan.{scanOf}
-use Rattle.parse.specs.Single.{Outcome, refusal, acceptance, documentLenMax, isInside, isPlace, filled, handed, singleOf}
-use Rattle.parse.specs.Inner.{LinkWithin, handedOf, HandsOver, HandedFronts}
+use Rattle.parse.specs.Single.{Outcome, refusal, acceptance, documentLenMax, isInside, isPlace, filled, handed, singleOf, linkOutcome, LinkFronts}
+use Rattle.parse.specs.Inner.{firstOf, secondOf, withParts, LinkWithin, handedOf, HandsOver, HandedFronts}
 use Rattle.parse.proofs.ScanLaws.{scan-of-within}
 use Rattle.parse.proofs.RoundLaws.{lent-enough}
 
@@ -112,13 +112,37 @@ module _ (a b : Span) (d f g : List ℕ) (w : (a .start + a .len ≤ length d) �
       → HandsOver (Both (record { start = 0; len = a .len }) (record { start = 0; len = b .len })) f′ g′ f g (part a d) (part b d)
   hands-both f′ g′ h h′ e e′ k m n = rw (copied a d f f′ e, copied b d g g′ e′) (both-fit k (part a d) (part b d) f g _ _ m n len-first len-second h h′)
 
--- What is handed over of a link x that is x′, by the answer r that is r′.
-pub handed-over :
-    (d f g f′ g′ : List ℕ) (x x′ : Link) (r r′ : Handed) (k : Kind) (a b : Span) (m n : ℕ) → x ≡ x′
-    → linkOf x′ d ≡ found k (part a d) (part b d) m n → r ≡ r′ → HandsOver r f′ g′ f g (part a d) (part b d) → HandedFronts r
-    → (handedOf k m n r′ f′ g′ ≡ handed f g (linkOf x d)) × HandedFronts r′
-handed-over d f g f′ g′ x x′ r r′ k a b m n e e′ h w v =
-    (sym (ap (λ (z : Handed). handedOf k m n z f′ g′) h) ∙ w k m n ∙ ap (handed f g) (sym e′ ∙ sym (ap (λ (z : Link). linkOf z d) e)), subst HandedFronts h v)
+-- What is handed over of a link, by the answer r.
+module _ (d f g f′ g′ : List ℕ) (r : Handed) where
+  -- the same two strings, by other names for where they stand
+  pub handed-parts :
+      (p q p′ q′ : Span) → p ≡ p′ → q ≡ q′ → HandsOver r f′ g′ f g (part p d) (part q d) → HandsOver r f′ g′ f g (part p′ d) (part q′ d)
+  handed-parts p q p′ q′ i j w =
+      subst (λ (z : Span). HandsOver r f′ g′ f g (part p′ d) (part z d)) j (subst (λ (z : Span). HandsOver r f′ g′ f g (part z d) (part q d)) i w)
+
+  handed-at :
+      (x : Link) (a b : Span) → r ≡ Both a b → HandsOver r f′ g′ f g (part (firstOf x) d) (part (secondOf x) d) → HandedFronts r
+      → (linkOutcome (withParts a b x) f′ g′ ≡ handed f g (linkOf x d)) × LinkFronts (withParts a b x)
+  handed-at (Text2Dest p q m n) a b e w v = (sym (ap (λ (z : Handed). handedOf text2dest m n z f′ g′) e) ∙ w text2dest m n, subst HandedFronts e v)
+  handed-at (TextLabel2Dest p q m n) a b e w v = (sym (ap (λ (z : Handed). handedOf text-label2dest m n z f′ g′) e) ∙ w text-label2dest m n, subst HandedFronts e v)
+  handed-at (Text2Label p q m n) a b e w v = (sym (ap (λ (z : Handed). handedOf text2label m n z f′ g′) e) ∙ w text2label m n, subst HandedFronts e v)
+  handed-at (Label2Dest p q m n) a b e w v = (sym (ap (λ (z : Handed). handedOf label2dest m n z f′ g′) e) ∙ w label2dest m n, subst HandedFronts e v)
+  handed-at (Label2Label p q m n) a b e w v = (sym (ap (λ (z : Handed). handedOf label2label m n z f′ g′) e) ∙ w label2label m n, subst HandedFronts e v)
+
+  pub handed-both :
+      (x y : Link) (a b : Span) → y ≡ withParts a b x → r ≡ Both a b → HandsOver r f′ g′ f g (part (firstOf x) d) (part (secondOf x) d) → HandedFronts r
+      → (linkOutcome y f′ g′ ≡ handed f g (linkOf x d)) × LinkFronts y
+  handed-both x y a b i e w v =
+      let z = handed-at x a b e w v in
+      (ap (λ (l : Link). linkOutcome l f′ g′) i ∙ z .0, subst⁻¹ LinkFronts i (z .1))
+
+  pub handed-short :
+      (x : Link) (size : ℕ) → r ≡ TooShort size → HandsOver r f′ g′ f g (part (firstOf x) d) (part (secondOf x) d) → refusal 7 size f′ g′ ≡ handed f g (linkOf x d)
+  handed-short (Text2Dest p q m n) size e w = sym (ap (λ (z : Handed). handedOf text2dest m n z f′ g′) e) ∙ w text2dest m n
+  handed-short (TextLabel2Dest p q m n) size e w = sym (ap (λ (z : Handed). handedOf text-label2dest m n z f′ g′) e) ∙ w text-label2dest m n
+  handed-short (Text2Label p q m n) size e w = sym (ap (λ (z : Handed). handedOf text2label m n z f′ g′) e) ∙ w text2label m n
+  handed-short (Label2Dest p q m n) size e w = sym (ap (λ (z : Handed). handedOf label2dest m n z f′ g′) e) ∙ w label2dest m n
+  handed-short (Label2Label p q m n) size e w = sym (ap (λ (z : Handed). handedOf label2label m n z f′ g′) e) ∙ w label2label m n
 
 -- The call's answer, by what its tests said.
 module _ (s : List ℕ) (place : ℕ) (f g : List ℕ) where

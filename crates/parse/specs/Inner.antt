@@ -10,6 +10,7 @@ use lib.Dec.{ltb}
 use lib.ListN.{length, drop, getD}
 use Rattle.rst_bytes.specs.Escaped.{isStop, taking}
 use Rattle.rst_bytes.specs.declared.Part.the-variants.{Taken, Refused}
+use Rattle.restructured_text.specs.declared.Span.{Span}
 use Rattle.restructured_text.specs.Delimited.{backtickedOf}
 use Rattle.parse.specs.declared.Known.{Known}
 use Rattle.parse.specs.declared.forms.Answer.{Answer}
@@ -164,13 +165,32 @@ Edge j s = (length s ≡ j) ⊎ Behind isLf j s
 abbrev pub Skips : Bool → ℕ → ℕ → List ℕ → Type 0
 Skips start i j s = (i ≤ j) × (j ≤ length s) × (i < j → rounds rst 0 start i (drop i s) ≡ rounds rst 0 false j (drop j s))
 
+-- where the strings of a link stand
+abbrev pub firstOf : Link → Span
+firstOf (Text2Dest a b skipped consumed) = a
+firstOf (TextLabel2Dest a b skipped consumed) = a
+firstOf (Text2Label a b skipped consumed) = a
+firstOf (Label2Dest a b skipped consumed) = a
+firstOf (Label2Label a b skipped consumed) = a
+
+abbrev pub secondOf : Link → Span
+secondOf (Text2Dest a b skipped consumed) = b
+secondOf (TextLabel2Dest a b skipped consumed) = b
+secondOf (Text2Label a b skipped consumed) = b
+secondOf (Label2Dest a b skipped consumed) = b
+secondOf (Label2Label a b skipped consumed) = b
+
+-- the link with its strings at places f and g
+abbrev pub withParts : Span → Span → Link → Link
+withParts f g (Text2Dest a b skipped consumed) = Text2Dest f g skipped consumed
+withParts f g (TextLabel2Dest a b skipped consumed) = TextLabel2Dest f g skipped consumed
+withParts f g (Text2Label a b skipped consumed) = Text2Label f g skipped consumed
+withParts f g (Label2Dest a b skipped consumed) = Label2Dest f g skipped consumed
+withParts f g (Label2Label a b skipped consumed) = Label2Label f g skipped consumed
+
 -- both strings end within the first n bytes of the scratch
 abbrev pub LinkWithin : ℕ → Link → Type 0
-LinkWithin n (Text2Dest a b skipped consumed) = (a .start + a .len ≤ n) × (b .start + b .len ≤ n)
-LinkWithin n (TextLabel2Dest a b skipped consumed) = (a .start + a .len ≤ n) × (b .start + b .len ≤ n)
-LinkWithin n (Text2Label a b skipped consumed) = (a .start + a .len ≤ n) × (b .start + b .len ≤ n)
-LinkWithin n (Label2Dest a b skipped consumed) = (a .start + a .len ≤ n) × (b .start + b .len ≤ n)
-LinkWithin n (Label2Label a b skipped consumed) = (a .start + a .len ≤ n) × (b .start + b .len ≤ n)
+LinkWithin n x = (firstOf x .start + firstOf x .len ≤ n) × (secondOf x .start + secondOf x .len ≤ n)
 
 -- what comes back of a link of that case, with the buffers as they were left
 abbrev pub handedOf : Kind → ℕ → ℕ → Handed → List ℕ → List ℕ → Outcome

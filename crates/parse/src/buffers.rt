@@ -11,7 +11,7 @@ ghost use lib.ListN.{length};
 ghost use Rattle.restructured_text.specs.Strings.{part};
 ghost use Rattle.parse.specs.Link.{linkOf};
 ghost use Rattle.parse.specs.Single.{isPlace, handed, outcomeOf, Fronts};
-ghost use Rattle.parse.specs.Inner.{LinkWithin, HandsOver, HandedFronts};
+ghost use Rattle.parse.specs.Inner.{firstOf, secondOf, withParts, LinkWithin, HandsOver, HandedFronts};
 
 // Whether a place is not past the document and not inside a character.
 pub fn is_place(document: &[u8], place: usize) -> bool
@@ -65,32 +65,63 @@ fn write_both(a: Span, b: Span, scratch: &[u8], first: &mut [u8], second: &mut [
     )
 }
 
+// Where the two strings of a link stand.
+struct Parts {
+    first: Span,
+    second: Span,
+}
+
+fn parts_of(x: Link) -> Parts
+    ensures { λ r. ⌜ (r .first ≡ firstOf x) × (r .second ≡ secondOf x) ⌝ }
+{
+    match x {
+        Link::Text2Dest(a, b, _, _) => Parts {
+            first: a,
+            second: b,
+        },
+        Link::TextLabel2Dest(a, b, _, _) => Parts {
+            first: a,
+            second: b,
+        },
+        Link::Text2Label(a, b, _, _) => Parts {
+            first: a,
+            second: b,
+        },
+        Link::Label2Dest(a, b, _, _) => Parts {
+            first: a,
+            second: b,
+        },
+        Link::Label2Label(a, b, _, _) => Parts {
+            first: a,
+            second: b,
+        },
+    }
+}
+
+// The link with its strings at other places.
+fn with_parts(x: Link, a: Span, b: Span) -> Link
+    ensures { λ r. ⌜ r ≡ withParts a b x ⌝ }
+{
+    match x {
+        Link::Text2Dest(_, _, m, n) => Link::Text2Dest(a, b, m, n),
+        Link::TextLabel2Dest(_, _, m, n) => Link::TextLabel2Dest(a, b, m, n),
+        Link::Text2Label(_, _, m, n) => Link::Text2Label(a, b, m, n),
+        Link::Label2Dest(_, _, m, n) => Link::Label2Dest(a, b, m, n),
+        Link::Label2Label(_, _, m, n) => Link::Label2Label(a, b, m, n),
+    }
+}
+
 // The answer for a link whose strings stand in the scratch.
 pub fn hand_over(x: Link, scratch: &[u8], first: &mut [u8], second: &mut [u8]) -> Single
     requires { ⌜ LinkWithin (length (now scratch)) x ⌝ }
     ensures outcome { λ r. ⌜ outcomeOf r (now (first .exit)) (now (second .exit)) ≡ handed (now (first .entry)) (now (second .entry)) (linkOf x (now (scratch .entry))) ⌝ }
     ensures fronts { λ r. ⌜ Fronts r ⌝ }
 {
-    match x {
-        Link::Text2Dest(a, b, m, n) => match write_both(a, b, scratch, first, second) {
-            Handed::Both(f, g) => Single::Linked(Link::Text2Dest(f, g, m, n)),
-            Handed::TooShort(size) => Single::Refused(7, size),
-        },
-        Link::TextLabel2Dest(a, b, m, n) => match write_both(a, b, scratch, first, second) {
-            Handed::Both(f, g) => Single::Linked(Link::TextLabel2Dest(f, g, m, n)),
-            Handed::TooShort(size) => Single::Refused(7, size),
-        },
-        Link::Text2Label(a, b, m, n) => match write_both(a, b, scratch, first, second) {
-            Handed::Both(f, g) => Single::Linked(Link::Text2Label(f, g, m, n)),
-            Handed::TooShort(size) => Single::Refused(7, size),
-        },
-        Link::Label2Dest(a, b, m, n) => match write_both(a, b, scratch, first, second) {
-            Handed::Both(f, g) => Single::Linked(Link::Label2Dest(f, g, m, n)),
-            Handed::TooShort(size) => Single::Refused(7, size),
-        },
-        Link::Label2Label(a, b, m, n) => match write_both(a, b, scratch, first, second) {
-            Handed::Both(f, g) => Single::Linked(Link::Label2Label(f, g, m, n)),
-            Handed::TooShort(size) => Single::Refused(7, size),
-        },
+    let parts = parts_of(x);
+    let a = parts.first;
+    let b = parts.second;
+    match write_both(a, b, scratch, first, second) {
+        Handed::Both(f, g) => Single::Linked(with_parts(x, f, g)),
+        Handed::TooShort(size) => Single::Refused(7, size),
     }
 }
