@@ -33,14 +33,14 @@ fn place_from(i: usize, n: usize) -> usize
     i - n
 }
 
-// One more of the blocks that were read and are none, up to 8.
+// One more of the blocks that were read and are none, up to 8; the number that stands for marks stays.
 pub fn counted(failed: usize) -> usize
-    ensures { λ r. ⌜ r ≤ 8 ⌝ }
+    ensures { λ r. ⌜ failed ≤ r ⌝ }
 {
     if failed < 8 {
         return failed + 1;
     }
-    8
+    failed
 }
 
 // What is known, with places counted from place n on, and with what is told of blocks there. So many were read before that are none.

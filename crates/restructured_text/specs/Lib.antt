@@ -15,6 +15,8 @@
 --                label2destOf         target::rst_label2dest                             one with a destination
 --                label2labelOf        target::rst_label2label                            one with an alias
 --                both of these        target::rst_target                                 one with either, read once (Definition)
+--                startsTarget         target::starts_target                              what starts a target: `.. _`, or `__ `
+--   Transform    isDestinationEscapable  transform::is_destination_escapable             what may be escaped in a destination
 -- Delimited says what a part between two tags is. Strings says what an answer means with the scratch as the parser left it, and
 -- that a scratch as long as the input is enough and is asked for; the strings then end within as many bytes of it as are consumed
 -- (Ends, part of each contract). Inner is what the contracts of private functions speak of.
@@ -36,6 +38,12 @@
 --                begins has no <, or two, there is no embedded link: InlineLaws embedded-unbracketed, embedded-opened; and where
 --                there is none with more text before it, there is none: embedded-longer; TargetLaws no-target, no-label,
 --                no-destination: where neither `.. _` nor `__ ` starts there is no target
+--   step by step what a definition says by the tests it makes, for places without targets: BlockLaws start-taken, start-refused, start-is,
+--                block-none, block-no-line, block-taken: a block's start and first line; cut-none, further-none, lines-end, lines-further: its
+--                further lines; DelimitedLaws delimited-taken, delimited-none, delimited-unclosed, delimited-refused: a part between tags;
+--                LabelLaws raw-quoted, raw-word, word-one, word-none, simple-named, simple-none, simple-empty, simple-long: a simple label;
+--                TargetLaws name-quoted, name-plain, plain-named, plain-none, parse-none: a name; raw-is, raw-all: a raw target;
+--                named-none, named-refused, anonymous-refuses: a target that is none
 --   calm         where no _ and no backtick stands before white space or the end (Calm) no inline form is found: CalmLaws calm-text2dest,
 --                calm-text-label2dest, calm-text2label; before LF or the end no target either: calm-label2dest, calm-label2label;
 --                calm-drop: what is behind in it is calm too

@@ -32,17 +32,17 @@
 --                      cut-rest: so are the two parts, up to an escaped stop byte and behind it; TrimLaws trim-behind: what is trimmed
 --                      behind a backtick;
 --                      LineLaws not-line-ending-end: a line ends before a line ending, space0-starts, space0-free: what spaces and
---                      tabs at the front begin with and lack; TagLaws starts-append, starts-space
+--                      tabs at the front begin with and lack; TagLaws starts-append, starts-shorter, starts-space
 --   at a place         by the code's tests: EscapedLaws at-end, at-plain, at-stop, at-alone, at-pair, at-wrong: one step of `taking`;
---                      first-other: where `escapedOf` begins; LineLaws bytes-end, bytes-pass, bytes-stop: one step of a run of bytes,
+--                      first-other, first-stop: where `escapedOf` begins; LineLaws bytes-end, bytes-pass, bytes-stop: one step of a run of bytes,
 --                      which bytes-count says is the same counted from any number; space1-none, space1-some: there is no space or
---                      tab, or one; ending-lf: LF is a line ending; multispace-cases: which bytes are white space
+--                      tab, or one; ending-lf, ending-crlf, ending-none: a line ending, or none; multispace-cases: which bytes are white space
 --   answers            EscapedLaws taken-is: equal answers take as many bytes; refused-taken: none is both taken and refused
 --   without two bytes  where a text has neither: EscapedLaws free-next: its first byte is neither, nor has the rest one; free-more:
 --                      nor has it with such a byte in front; free-drop, free-take: nor have its parts; TagLaws starts-free: nor what it
 --                      begins with
 --   lists and tests    Lists part-from, drop-end, drop-next, drop-two, drop-last: parts of a list; TestLaws picks-first,
---                      picks-second, by-test, by-test₂, lt-or-le, neither: what a test picks
+--                      picks-second, by-test, by-test₂, lt-or-le, or-cases, neither: what a test picks
 --   appending          LineLaws body-drop; bytes-append: a run is the same with a byte behind it that does not pass; on s ++ 10 ∷ t:
 --                      DomainLaws outside-lf; WordLaws word-lf; EscapedLaws refused-lf, taken-lf, open-lf; LineLaws newline-lf,
 --                      line-ending-lf, not-line-ending-lf, space0-lf, space1-lf; TagLaws starts-lf; with another byte than LF between:

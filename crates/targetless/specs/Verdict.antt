@@ -3,7 +3,7 @@
 use Prim.Native.Nat.{ℕ, _+_, _<_}
 use mathlib.Core.Path.{_≡_}
 use mathlib.Core.List.{List, [], _∷_, _++_}
-use mathlib.Core.Bool.{Bool, true, false, _&&_, _||_}
+use mathlib.Core.Bool.{Bool, true, false, _||_}
 use lib.Dec.{eqb, leb, ltb}
 use lib.ListN.{length, getD, drop, take}
 use Rattle.rst_bytes.specs.Line.{isSpace, notLineEndingOf}

@@ -8,12 +8,8 @@ use rst_bytes::line::is_space;
 ghost use mathlib.Core.Path.{_≡_};
 ghost use mathlib.Core.Bool.{true, false};
 ghost use Prim.Native.Nat.{_+_, _≤_, _<_};
-ghost use mathlib.Core.List.{[]};
 ghost use lib.ListN.{length, drop, getD};
-ghost use Rattle.rst_bytes.specs.Line.{notLineEndingOf};
-ghost use Rattle.rst_bytes.specs.declared.Part.the-variants.{Refused};
 ghost use Rattle.targetless.specs.Verdict.{Shared};
-ghost use Rattle.targetless.specs.Runs.{StateTells};
 ghost use Rattle.targetless.specs.Walk.{lastOf, overLine, Walked};
 
 // The states at a place and at the next one; where the line behind this one starts, or the text's length if there is none or it is refused; and
