@@ -101,7 +101,7 @@ fn spaced(piece: &str, links: usize, text: &str, len: usize) -> Vec<u8> {
     piece.into_iter().cycle().take(len).collect()
 }
 
-pub const INPUTS: [Input; 30] = [
+pub const INPUTS: [Input; 32] = [
     grown!("plain prose", Some(0.1), |n| repeated(PROSE, n)),
     single!("a short note", Some(0.2), NOTES),
     grown!("250 references with targets", Some(0.2), referred),
@@ -172,4 +172,22 @@ pub const INPUTS: [Input; 30] = [
         let line = repeated("a_ .. _b a_  .. _b ", n / 7);
         between(&String::from_utf8_lossy(&line), "\n     x", "", n)
     }),
+    grown!("250 references before a long label", None, |n| {
+        let line = repeated("a_ .. _b ", n / 50 * 7);
+        let front = format!(
+            "{}: `{}`_ ",
+            String::from_utf8_lossy(&line),
+            "x".repeat(1000)
+        );
+        between(&front, "words ", "\\q", n.max(front.len() + 2))
+    }),
+    grown!(
+        "250 references before a label on the next line",
+        None,
+        |n| {
+            let line = repeated("a_ .. _b ", n / 50 * 7);
+            let front = format!("{}:\n    `x ", String::from_utf8_lossy(&line));
+            between(&front, "words ", "\\q", n)
+        }
+    ),
 ];
