@@ -206,12 +206,17 @@ taking-later p q k (b ∷ l) false n =
     (λ f. refl)
     (λ f. ap (λ (m : ℕ). taking p q false m l) z ∙ taking-later p q k l false (n + 1)))
 
+-- what is taken is taken counted from k
+pub taken-later : (p q k : ℕ) (l : List ℕ) (n : ℕ) → taking p q false 0 l ≡ Taken n → taking p q false k l ≡ Taken (k + n)
+taken-later p q k l n e =
+    let z : k ≡ k + 0 = omega arith in
+    ap (λ (m : ℕ). taking p q false m l) z ∙ taking-later p q k l false 0 ∙ ap (later k) e
+
 -- what `escaped` takes, counted from k
 pub taken-from : (p q k : ℕ) (s : List ℕ) (n : ℕ) → escapedOf p q s ≡ Taken n → taking p q false k s ≡ Taken (k + n)
 unfolding escapedOf taking
 taken-from p q k s n e =
-    let z : k ≡ k + 0 = omega arith in
-    ap (λ (m : ℕ). taking p q false m s) z ∙ taking-later p q k s false 0 ∙ ap (later k) (first s e)
+    taken-later p q k s n (first s e)
   where
     first : (l : List ℕ) → escapedOf p q l ≡ Taken n → taking p q false 0 l ≡ Taken n
     first [] f = f

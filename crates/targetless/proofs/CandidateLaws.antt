@@ -36,8 +36,8 @@ Flagged on indent s = (n : ℕ) → notLineEndingOf s ≡ Taken n → on ≡ isF
 -- A verdict that the flag selects is true of the text.
 told-by :
     (g : List ℕ → Bool) (v : Verdict) (s indent : List ℕ) (on : Bool) (n : ℕ) → Tells g v s → Blank indent → notLineEndingOf s ≡ Taken n
-    → on ≡ isFurther (furtherOf indent (drop n s)) → judgedOf v on (length indent + 3) ≡ true → g (joinedOf indent n s) ≡ true
-told-by g v s indent on n k b t o j = k indent n b t (ap (λ (x : Bool). judgedOf v x (length indent + 3)) (sym o) ∙ j)
+    → on ≡ isFurther (furtherOf indent (drop n s)) → judgedOf v on (length indent) ≡ true → g (joinedOf indent n s) ≡ true
+told-by g v s indent on n k b t o j = k indent n b t (ap (λ (x : Bool). judgedOf v x (length indent)) (sym o) ∙ j)
 
 -- A text that begins with `_` at place e.
 module _ (s indent : List ℕ) (e : ℕ) (h : e < length s) (f : getD s e 0 ≡ 0x5F) where
@@ -55,7 +55,7 @@ module _ (s indent : List ℕ) (e : ℕ) (h : e < length s) (f : getD s e 0 ≡ 
   module _ (on : Bool) (b : Blank indent) (o : Flagged on indent (drop e s)) where
     -- a plain name
     pub told-plain :
-        (v : Verdict) → Tells plainRun v (drop (e + 1) s) → startsWith (0x5F ∷ 0x60 ∷ []) (from s e) ≡ false → judgedOf v on (length indent + 3) ≡ true
+        (v : Verdict) → Tells plainRun v (drop (e + 1) s) → startsWith (0x5F ∷ 0x60 ∷ []) (from s e) ≡ false → judgedOf v on (length indent) ≡ true
         → (n : ℕ) → notLineEndingOf (drop e s) ≡ Taken n → Unnamed (joinedOf indent n (drop e s))
     told-plain v g k j n t =
         let z = text-byte indent s e n h inside t in
@@ -67,8 +67,8 @@ module _ (s indent : List ℕ) (e : ℕ) (h : e < length s) (f : getD s e 0 ≡ 
     -- a name in backticks, where a plain one has no target either, or where it is closed
     pub told-quoted :
         (u v x : Verdict) → Tells plainRun u (drop (e + 1) s) → Tells quotedRun v (drop (e + 1 + 1) s) → Tells closedRun x (drop (e + 1 + 1) s)
-        → startsWith (0x5F ∷ 0x60 ∷ []) (from s e) ≡ true → judgedOf v on (length indent + 3) ≡ true
-        → (judgedOf u on (length indent + 3) ≡ true) ⊎ (judgedOf x on (length indent + 3) ≡ true)
+        → startsWith (0x5F ∷ 0x60 ∷ []) (from s e) ≡ true → judgedOf v on (length indent) ≡ true
+        → (judgedOf u on (length indent) ≡ true) ⊎ (judgedOf x on (length indent) ≡ true)
         → (n : ℕ) → notLineEndingOf (drop e s) ≡ Taken n → Unnamed (joinedOf indent n (drop e s))
     told-quoted u v x gu gv gx k j d n t =
         let c = followed s e h inside 0x5F 0x60 [] f (ap (startsWith (0x5F ∷ 0x60 ∷ [])) (sym (part-from s e)) ∙ k) in
@@ -129,19 +129,19 @@ module _ (s : List ℕ) (k e : ℕ) (p : (e < length s) × (k + 3 ≤ e) × Inde
   module _ (w : Walk) (here : Walked w e s) where
     -- the line is refused
     pub free-broken : w .broken ≡ true → NoTarget (drop k s)
-    free-broken i = no-target-refused s k (e - 3) (p .2) d (ap (λ (j : ℕ). notLineEndingOf (drop j s)) behind ∙ here .4 i)
+    free-broken i = no-target-refused s k (e - 3) (p .2) d (ap (λ (j : ℕ). notLineEndingOf (drop j s)) behind ∙ here .6 i)
 
     -- whether a further line follows
     pub free-flag : (on : Bool) → on ≡ startsWith (indent ++ three) (drop (w .next) s) → Flagged on indent (drop e s)
-    free-flag on o n t = o ∙ sym (here .3 indent n free-blank t)
+    free-flag on o n t = o ∙ sym (here .5 indent n free-blank t)
 
     module _ (i : w .broken ≡ false) where
       -- an anonymous target
       pub free-dead :
           (on : Bool) → on ≡ startsWith (indent ++ three) (drop (w .next) s) → getD s (e - 3) 0 ≡ 0x5F
-          → judgedOf (w .near .target) on (length indent + 3) ≡ true → NoTarget (drop k s)
+          → judgedOf (w .near .target) on (length indent) ≡ true → NoTarget (drop k s)
       free-dead on o q j =
-          let t = here .5 i in
+          let t = here .7 i in
           let g = told-by isDead (w .near .target) (drop e s) indent on (t .0) (here .0 .5) free-blank (t .1) (free-flag on o (t .0) (t .1)) j in
           no-target-dead s k (e - 3) (t .0) (p .2) (strokes-headed (drop (e - 3) s) d (front ∙ q))
           (ap (λ (j : ℕ). notLineEndingOf (drop j s)) behind ∙ t .1)
@@ -151,7 +151,7 @@ module _ (s : List ℕ) (k e : ℕ) (p : (e < length s) × (k + 3 ≤ e) × Inde
       pub free-unnamed :
           (getD s (e - 3) 0 ≡ 0x5F → ⊥) → ((n : ℕ) → notLineEndingOf (drop e s) ≡ Taken n → Unnamed (joinedOf indent n (drop e s))) → NoTarget (drop k s)
       free-unnamed q g =
-          let t = here .5 i in
+          let t = here .7 i in
           no-target-unnamed s k (e - 3) (t .0) (p .2) (dots-only (drop (e - 3) s) (headed q))
           (ap (λ (j : ℕ). notLineEndingOf (drop j s)) behind ∙ t .1)
           (subst⁻¹ (λ (j : ℕ). Unnamed (joinedOf indent (t .0) (drop j s))) behind (g (t .0) (t .1)))

@@ -1,15 +1,18 @@
 -- The laws of the smallest functions, one for each way through their bodies: what verdicts are made of, an escape, a word that is a label, the
 -- blanks before a place and those that two places share, and a further line's front.
 -- Assumes nothing.
-use Prim.Native.Nat.{ℕ, _+_, _-_, _<_, _≤_}
+use Prim.Native.Nat.{ℕ, _+_, _-_, _*_, _/_, _%_, _^_, _<_, _≤_}
 use native.Mathlib.Omega.{arith}
 use mathlib.Core.Path.{_≡_, refl, sym, ap, subst, subst⁻¹, _∙_}
 use mathlib.Core.List.{List, _++_}
 use mathlib.Core.Bool.{Bool, true, false, _&&_}
 use mathlib.Core.Logic.{_⊎_, inl, inr}
-use lib.Dec.{eqb, ltb}
+use lib.Dec.{eqb, leb, ltb}
 use lib.ListN.{length, getD, drop}
-use borrow.Author.Tests.{lt-ltb, le-ltb, le-leb, lt-leb}
+use lib.Bits.{bitAnd, bitOr}
+use lib.Pow.{pow-pos, shl-exact}
+use native.Mathlib.Nat.{one-mul}
+use borrow.Author.Tests.{eq-eqb, ne-eqb, lt-ltb, le-ltb, le-leb, lt-leb}
 use Rattle.rst_bytes.specs.Line.{isSpace}
 use Rattle.rst_bytes.specs.Tag.{startsWith}
 use Rattle.rst_bytes.specs.Word.{wordOf}
@@ -20,85 +23,136 @@ use Rattle.rst_bytes.proofs.WordLaws.{word-within}
 use Rattle.restructured_text.specs.Block.{three}
 use Rattle.restructured_text.proofs.BlockLaws.{from}
 use Rattle.targetless.specs.declared.Verdict.{Verdict}
+use Rattle.targetless.specs.declared.Size.{Size}
 use Rattle.targetless.specs.declared.State.{State}
-use Rattle.targetless.specs.Verdict.{bitOf, isLone, everything, nothing, sureOf, minOf, loneOf, overOf, judgedOf, endsLine, escapeOf, Shared}
-use Rattle.targetless.specs.Runs.{escapableOf, wordLabelled}
-use Rattle.targetless.specs.Walk.{Indented}
+use Rattle.targetless.specs.Verdict.{ones, bitAt, isLone, judgedOf, everything, sureOf, bothOf, eitherOf, lessOf, onesOf, upToOf, loneOf, overOf, endsLine, escapeOf, Shared}
+use Rattle.targetless.specs.Runs.{wordLabelled, pairedOf}
+use Rattle.targetless.specs.Walk.{stopOf, frontOf, Indented}
 
 -- Verdicts.
 
--- a state of six verdicts
-abbrev pub stateOf : Verdict → Verdict → Verdict → Verdict → Verdict → Verdict → State
-stateOf a b c d e f = record { destination = a; label = b; plain = c; quoted = d; closed = e; target = f }
-
--- everything or nothing, by the flag
-module _ (all : Bool) (n : ℕ) where
-  pub sure-all : all ≡ true → everything n ≡ sureOf all n
-  sure-all e = rw e
-
-  pub sure-none : all ≡ false → nothing n ≡ sureOf all n
-  sure-none e = rw e
-
--- verdicts of the same numbers are the same
-abbrev pub verdictOf : ℕ → ℕ → ℕ → Verdict
-verdictOf a b c = record { lone = a; low = b; high = c }
-
-pub verdict-of : {a a′ b b′ c c′ : ℕ} → a ≡ a′ → b ≡ b′ → c ≡ c′ → verdictOf a b c ≡ verdictOf a′ b′ c′
-verdict-of e f g = rw (e, f, g) refl
+-- a state of six verdicts and a size
+abbrev pub stateOf : Verdict → Verdict → Verdict → Verdict → Verdict → Verdict → Size → State
+stateOf a b c d e f z = record { destination = a; label = b; plain = c; quoted = d; closed = e; target = f; size = z }
 
 -- states of the same verdicts are the same
-pub state-of : {a a′ b b′ c c′ d d′ e e′ f f′ : Verdict} → a ≡ a′ → b ≡ b′ → c ≡ c′ → d ≡ d′ → e ≡ e′ → f ≡ f′ → stateOf a b c d e f ≡ stateOf a′ b′ c′ d′ e′ f′
+pub state-of : {a a′ b b′ c c′ d d′ e e′ f f′ : Verdict} {z : Size} → a ≡ a′ → b ≡ b′ → c ≡ c′ → d ≡ d′ → e ≡ e′ → f ≡ f′ → stateOf a b c d e f z ≡ stateOf a′ b′ c′ d′ e′ f′ z
 state-of p q r s t u = rw (p, q, r, s, t, u) refl
 
--- what is told of the next line, by whether it is told where no line follows that one
-module _ (v : Verdict) (lone : Bool) (shared n b r : ℕ) (g : b ≡ bitOf lone) where
-  pub over-lone : 0 < v .lone → r ≡ minOf shared (v .high) → verdictOf b (v .low) r ≡ overOf v lone shared n
-  over-lone e f = verdict-of g refl f ∙ sym (picks-first _ _ _ (lt-ltb 0 (v .lone) e))
+-- verdicts of the same bits are the same
+abbrev pub verdictOf : ℕ → ℕ → Verdict
+verdictOf a b = record { short = a; long = b }
 
-  pub over-open : v .lone ≤ 0 → r ≡ minOf shared (v .low) → verdictOf b r n ≡ overOf v lone shared n
-  over-open e f = verdict-of g f refl ∙ sym (picks-second _ _ _ (le-ltb 0 (v .lone) e))
+pub verdict-of : {a a′ b b′ : ℕ} → a ≡ a′ → b ≡ b′ → verdictOf a b ≡ verdictOf a′ b′
+verdict-of e f = rw (e, f) refl
 
--- what a verdict says where a further line follows
-module _ (v : Verdict) (on : Bool) (m : ℕ) (e : on ≡ true) where
-  pub judged-low : m ≤ v .low → true ≡ judgedOf v on m
-  judged-low h = rw (e, le-leb m (v .low) h)
+-- the answer where no further line follows, by the flag
+module _ (v : Verdict) (lone : Bool) where
+  pub lone-set : lone ≡ true → verdictOf (bitOr (v .short) 1) (v .long) ≡ loneOf v lone
+  lone-set e = rw e
 
-  pub judged-high : v .low < m → ltb (v .high) m ≡ judgedOf v on m
-  judged-high h = rw (e, lt-leb m (v .low) h)
+  pub lone-clear : lone ≡ false → verdictOf (bitAnd (v .short) 0xffff_ffff_ffff_fffe) (v .long) ≡ loneOf v lone
+  lone-clear e = rw e
 
--- where none does
-pub judged-lone : (v : Verdict) (on : Bool) (m : ℕ) → on ≡ false → isLone v ≡ judgedOf v on m
-judged-lone v on m e = rw e
+-- so many less
+module _ (a b : ℕ) where
+  pub less-none : a < b → 0 ≡ lessOf a b
+  less-none h = sym (picks-first _ _ _ (lt-ltb a b h))
 
--- Escapes.
+  pub less-some : b ≤ a → a - b ≡ lessOf a b
+  less-some h = sym (picks-second _ _ _ (le-ltb a b h))
 
--- what may stand behind a backslash, by the flag
-module _ (b : ℕ) (name : Bool) where
-  pub follows-name : name ≡ true → escapableOf true b ≡ escapableOf name b
-  follows-name e = rw e
+-- the lowest bits
+module _ (n : ℕ) where
+  pub ones-all : 64 ≤ n → ones ≡ onesOf n
+  unfolding onesOf
+  ones-all h = sym (picks-first _ _ _ (le-leb 64 n h))
 
-  pub follows-destination : name ≡ false → escapableOf false b ≡ escapableOf name b
-  follows-destination e = rw e
+  module _ (h : n < 64) where
+    shifted : (1 * 2 ^ n) % 18446744073709551616 ≡ 2 ^ n
+    shifted = shl-exact {a = 1} 1 n 64 (omega arith) (omega arith) ∙ one-mul (2 ^ n)
 
--- at a backslash at place i
-module _ (s : List ℕ) (i n : ℕ) (ok : ℕ → Bool) (wrong : Bool) (near far : Verdict) where
+    pub ones-pos : 1 ≤ (1 * 2 ^ n) % 18446744073709551616
+    ones-pos = subst⁻¹ (λ (x : ℕ). 1 ≤ x) shifted (pow-pos n)
+
+    pub ones-some : (1 * 2 ^ n) % 18446744073709551616 - 1 ≡ onesOf n
+    unfolding onesOf
+    ones-some = ap (λ (x : ℕ). x - 1) shifted ∙ sym (picks-second _ _ _ (lt-leb 64 n h))
+
+-- over a line's end
+module _ (next within e r : Verdict) (lone : Bool) (shared : ℕ) (w : within ≡ upToOf shared) (q : r ≡ loneOf e lone) where
+  pub over-lone : isLone next ≡ true → e ≡ eitherOf next (verdictOf (ones - within .short) (ones - within .long)) → r ≡ overOf next lone shared
+  over-lone f p =
+      q ∙ ap (λ (x : Verdict). loneOf x lone)
+      (p ∙ ap (λ (x : Verdict). eitherOf next (verdictOf (ones - x .short) (ones - x .long))) w ∙ sym (picks-first _ _ _ f))
+
+  pub over-open : isLone next ≡ false → e ≡ bothOf next within → r ≡ overOf next lone shared
+  over-open f p = q ∙ ap (λ (x : Verdict). loneOf x lone) (p ∙ ap (bothOf next) w ∙ sym (picks-second _ _ _ f))
+
+-- what a verdict says
+module _ (v : Verdict) (on : Bool) (k : ℕ) where
+  module _ (e : on ≡ true) where
+    pub judged-short : k < 63 → eqb (bitAnd (v .short / 2 ^ (k + 1)) 1) 1 ≡ judgedOf v on k
+    unfolding bitAt
+    judged-short h = rw e (sym (picks-first _ _ _ (lt-ltb k 63 h)))
+
+    pub judged-long : 63 ≤ k → k < 127 → eqb (bitAnd (v .long / 2 ^ (k - 63)) 1) 1 ≡ judgedOf v on k
+    unfolding bitAt
+    judged-long h g = rw e (sym (picks-second _ _ _ (le-ltb k 63 h) ∙ picks-first _ _ _ (lt-ltb k 127 g)))
+
+    pub judged-deep : 63 ≤ k → 127 ≤ k → false ≡ judgedOf v on k
+    judged-deep h g = rw e (sym (picks-second _ _ _ (le-ltb k 63 h) ∙ picks-second _ _ _ (le-ltb k 127 g)))
+
+  pub judged-alone : on ≡ false → isLone v ≡ judgedOf v on k
+  judged-alone e = rw e
+
+-- at a line's end behind a colon, before a line that begins with q blanks
+module _ (q shared : ℕ) (v front : Verdict) where
+  pub stop-few : q < 3 → loneOf v true ≡ stopOf q shared v front
+  stop-few h = sym (picks-second _ _ _ (lt-leb 3 q h))
+
+  module _ (h : 3 ≤ q) where
+    pub stop-front : judgedOf front (leb q shared) (q - 3) ≡ true → loneOf v true ≡ stopOf q shared v front
+    stop-front f = sym (picks-first _ _ _ (le-leb 3 q h) ∙ picks-first _ _ _ f)
+
+    pub stop-before : judgedOf front (leb q shared) (q - 3) ≡ false → loneOf (bothOf v (upToOf (q - 1))) true ≡ stopOf q shared v front
+    stop-before f = sym (picks-first _ _ _ (le-leb 3 q h) ∙ picks-second _ _ _ f)
+
+-- the target behind the blanks at a place
+module _ (b : ℕ) (front target : Verdict) where
+  pub front-next : isSpace b ≡ true → front ≡ frontOf b front target
+  front-next e = sym (picks-first _ _ _ e)
+
+  pub front-own : isSpace b ≡ false → target ≡ frontOf b front target
+  front-own e = sym (picks-second _ _ _ e)
+
+-- at a backslash before a byte that it takes along
+module _ (far : State) (size : Size) (everywhere : Bool) where
+  pub paired-all : everywhere ≡ true → stateOf (far .destination) (far .label) (far .plain) (far .quoted) (far .closed) (far .destination) size ≡ pairedOf far everywhere size
+  paired-all e = rw e
+
+  pub paired-names : everywhere ≡ false → stateOf everything everything (far .plain) (far .quoted) (far .closed) everything size ≡ pairedOf far everywhere size
+  paired-names e = rw e
+
+-- Escapes, at a backslash at place i.
+module _ (s : List ℕ) (i : ℕ) (ok : ℕ → Bool) (wrong : Bool) (near far : Verdict) where
   -- at the text's end
-  pub escape-last : i < length s → length s ≤ i + 1 → sureOf wrong n ≡ escapeOf n ok wrong near far (drop i s)
+  pub escape-last : i < length s → length s ≤ i + 1 → escapeOf ok wrong near far (drop i s) ≡ sureOf wrong
   escape-last h g = rw (drop-last s i h g) refl
 
   module _ (h : i + 1 < length s) where
     -- before a line's end
-    pub escape-line : endsLine (getD s (i + 1) 0) ≡ true → loneOf near wrong ≡ escapeOf n ok wrong near far (drop i s)
-    escape-line e = subst⁻¹ (λ x. loneOf near wrong ≡ escapeOf n ok wrong near far x) (drop-two s i h) (sym (picks-first _ _ _ e))
+    pub escape-line : endsLine (getD s (i + 1) 0) ≡ true → escapeOf ok wrong near far (drop i s) ≡ loneOf near wrong
+    escape-line e = ap (escapeOf ok wrong near far) (drop-two s i h) ∙ picks-first _ _ _ e
 
     module _ (e : endsLine (getD s (i + 1) 0) ≡ false) where
       -- before a byte that may stand there
-      pub escape-pair : ok (getD s (i + 1) 0) ≡ true → far ≡ escapeOf n ok wrong near far (drop i s)
-      escape-pair f = subst⁻¹ (λ x. far ≡ escapeOf n ok wrong near far x) (drop-two s i h) (sym (picks-second _ _ _ e ∙ picks-first _ _ _ f))
+      pub escape-pair : ok (getD s (i + 1) 0) ≡ true → escapeOf ok wrong near far (drop i s) ≡ far
+      escape-pair f = ap (escapeOf ok wrong near far) (drop-two s i h) ∙ picks-second _ _ _ e ∙ picks-first _ _ _ f
 
       -- before another byte
-      pub escape-wrong : ok (getD s (i + 1) 0) ≡ false → sureOf wrong n ≡ escapeOf n ok wrong near far (drop i s)
-      escape-wrong f = subst⁻¹ (λ x. sureOf wrong n ≡ escapeOf n ok wrong near far x) (drop-two s i h) (sym (picks-second _ _ _ e ∙ picks-second _ _ _ f))
+      pub escape-wrong : ok (getD s (i + 1) 0) ≡ false → escapeOf ok wrong near far (drop i s) ≡ sureOf wrong
+      escape-wrong f = ap (escapeOf ok wrong near far) (drop-two s i h) ∙ picks-second _ _ _ e ∙ picks-second _ _ _ f
 
 -- Words.
 
@@ -112,10 +166,28 @@ module _ (s : List ℕ) (i w : ℕ) (e : w ≡ wordOf (from s i)) where
   pub word-inside : 2 ≤ w → w - 1 < length (from s i)
   word-inside h = omega (arith, e, word-within (from s i))
 
-  -- its last byte tells
-  pub word-told : 2 ≤ w → eqb (getD (from s i) (w - 1) 0) 0x5F ≡ wordLabelled (drop i s)
+  pub word-inside-two : 2 ≤ w → w - 2 < length (from s i)
+  word-inside-two h = omega (arith, e, word-within (from s i))
+
+  -- its last bytes tell
+  word-is : 2 ≤ w → (eqb (getD (from s i) (w - 1) 0) 0x5F && leb w (elim (eqb (getD (from s i) (w - 2) 0) 0x5F) [ true ↦ 1001 | false ↦ 1000 ])) ≡ wordLabelled (drop i s)
   unfolding wordLabelled
-  word-told h = rw (part-from s i) (simp (sym (e ∙ ap wordOf (part-from s i)), lt-ltb 1 w (omega arith)))
+  word-is h = rw (part-from s i) (simp (sym (e ∙ ap wordOf (part-from s i)), lt-ltb 1 w (omega arith)))
+
+  pub word-other : 2 ≤ w → (getD (from s i) (w - 1) 0 ≡ 0x5F → ⊥) → false ≡ wordLabelled (drop i s)
+  word-other h f = sym (ap (λ (x : Bool). x && leb w (elim (eqb (getD (from s i) (w - 2) 0) 0x5F) [ true ↦ 1001 | false ↦ 1000 ])) (ne-eqb _ _ f)) ∙ word-is h
+
+  module _ (h : 2 ≤ w) (f : getD (from s i) (w - 1) 0 ≡ 0x5F) where
+    last-is : leb w (elim (eqb (getD (from s i) (w - 2) 0) 0x5F) [ true ↦ 1001 | false ↦ 1000 ]) ≡ wordLabelled (drop i s)
+    last-is = sym (ap (λ (x : Bool). x && leb w (elim (eqb (getD (from s i) (w - 2) 0) 0x5F) [ true ↦ 1001 | false ↦ 1000 ])) (eq-eqb _ _ f)) ∙ word-is h
+
+    -- two of `_`
+    pub word-two : getD (from s i) (w - 2) 0 ≡ 0x5F → leb w 1001 ≡ wordLabelled (drop i s)
+    word-two g = sym (ap (λ (x : Bool). leb w (elim x [ true ↦ 1001 | false ↦ 1000 ])) (eq-eqb _ _ g)) ∙ last-is
+
+    -- one
+    pub word-one : (getD (from s i) (w - 2) 0 ≡ 0x5F → ⊥) → leb w 1000 ≡ wordLabelled (drop i s)
+    word-one g = sym (ap (λ (x : Bool). leb w (elim x [ true ↦ 1001 | false ↦ 1000 ])) (ne-eqb _ _ g)) ∙ last-is
 
 -- Blanks.
 

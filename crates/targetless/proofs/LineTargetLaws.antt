@@ -1,51 +1,48 @@
--- A target on a further line begins among the blanks of that line or right behind them. A blank begins no label, so a target begins one only if one
--- stands behind the blanks; else it is a destination, and what is told of destinations at the line's end is told of it: the space before it changes
--- nothing.
+-- A target on a further line begins among the blanks of that line or right behind them. A blank begins no label, so a target that begins with one is a
+-- destination, and what is told of destinations at the line's end is told of it: the space before it changes nothing. Behind all blanks it is the
+-- target that stands there.
 -- Assumes nothing.
 use Prim.Native.Nat.{ℕ, zero, suc, _+_, _-_, _<_, _≤_}
 use native.Mathlib.Omega.{arith}
-use mathlib.Core.Path.{_≡_, refl, sym, ap, subst, _∙_}
+use mathlib.Core.Path.{_≡_, refl, sym, ap, subst, subst⁻¹, _∙_}
 use mathlib.Core.List.{List, [], _∷_, _++_}
-use mathlib.Core.Bool.{Bool, true, false, _&&_, _||_, false≢true, true≢false}
+use mathlib.Core.Bool.{Bool, true, false, false≢true}
 use mathlib.Core.Logic.{⊎-elim}
-use lib.Dec.{eqb, ltb}
-use lib.ListN.{length, getD, drop, length-drop, length-append}
+use lib.Dec.{eqb, leb}
+use lib.ListN.{length, getD, drop, length-append}
 use lib.Seq.{drop-drop}
-use borrow.Author.Tests.{eqb-true, eq-eqb, ne-eqb}
+use borrow.Author.Tests.{eqb-true, le-leb, lt-leb, leb-false}
 use Rattle.rst_bytes.specs.Domain.{run}
-use Rattle.rst_bytes.specs.Line.{isSpace, bytesFrom, space0Of, lineEndingOf, notLineEndingOf}
+use Rattle.rst_bytes.specs.Line.{isSpace, bytesFrom, space0Of, notLineEndingOf}
 use Rattle.rst_bytes.specs.Tag.{startsWith}
 use Rattle.rst_bytes.specs.Word.{isAsciiWord, wordOf}
-use Rattle.rst_bytes.specs.declared.Part.{Part}
-use Rattle.rst_bytes.specs.declared.Part.the-variants.{Taken, Refused}
-use Rattle.rst_bytes.proofs.Lists.{drop-next, drop-end, part-from}
-use Rattle.rst_bytes.proofs.LineLaws.{bytes-count, line-ending-le}
-use Rattle.rst_bytes.proofs.TestLaws.{picks-first, picks-second, neither}
+use Rattle.rst_bytes.specs.declared.Part.the-variants.{Taken}
+use Rattle.rst_bytes.proofs.LineLaws.{bytes-count}
+use Rattle.rst_bytes.proofs.TestLaws.{picks-first, picks-second, by-test, lt-or-le}
 use Rattle.rst_bytes.proofs.TagLaws.{starts-le}
 use Rattle.rst_bytes.proofs.WordLaws.{word-ended}
-use Rattle.restructured_text.specs.Block.{three, lineAt, furtherOf}
-use Rattle.restructured_text.specs.declared.block.Line.{Line}
-use Rattle.restructured_text.specs.declared.block.Line.the-variants.{Further, End}
-use Rattle.restructured_text.proofs.BlockLaws.{from}
+use Rattle.restructured_text.specs.Block.{three, furtherOf}
+use Rattle.restructured_text.specs.declared.block.Line.the-variants.{End}
 use Rattle.targetless.specs.declared.Verdict.{Verdict}
-use Rattle.targetless.specs.Verdict.{joinedOf, isFurther, Blank, endsLine, judgedOf, Tells, nothing, loneOf}
-use Rattle.targetless.specs.Runs.{escapableOf, wordLabelled, labelBegins, isDead, destinationRun, lineStop}
-use Rattle.targetless.proofs.TextLaws.{text-further-at, further-at, further-none-at}
-use Rattle.targetless.proofs.VerdictLaws.{space-cases, blank-three, blank-next, run-plain}
+use Rattle.targetless.specs.Verdict.{joinedOf, isFurther, Blank, endsLine, judgedOf, bothOf, upToOf, Tells, Follows, Shared}
+use Rattle.targetless.specs.Runs.{escapableOf, wordLabelled, isDead, destinationRun, lineStop}
+use Rattle.targetless.specs.Walk.{stopOf}
+use Rattle.targetless.proofs.TextLaws.{text-further, further-lf-other, line-taken, lf-first}
+use Rattle.targetless.proofs.VerdictLaws.{space-cases, space-plain, starts-next, blank-three, blank-next, shared-fewer, shared-more, lf-taken, judged-both, judged-lone, judged-up-to, run-plain}
 use Rattle.targetless.proofs.RunLaws.{either, dead-unlabelled}
-use Rattle.targetless.proofs.WordLaws.{word-joined}
-use Rattle.targetless.proofs.StateLaws.{starts-one, first-byte, ends-here, text-alone, tells-none}
+use Rattle.targetless.proofs.WordLaws.{labelled, word-joined}
+use Rattle.targetless.proofs.StateLaws.{first-byte, ends-here, text-alone}
 
 -- Blanks at the front of a list.
 
 -- one more of them
-blanks-more : (b : ℕ) (l : List ℕ) → isSpace b ≡ true → space0Of (b ∷ l) ≡ suc (space0Of l)
+pub blanks-more : (b : ℕ) (l : List ℕ) → isSpace b ≡ true → space0Of (b ∷ l) ≡ suc (space0Of l)
 unfolding bytesFrom
 blanks-more b l e =
     let z : bytesFrom isSpace (0 + 1) l ≡ suc (space0Of l) = omega (arith, bytes-count isSpace l (0 + 1)) in
     picks-first _ _ _ e ∙ z
 
-blanks-none : (b : ℕ) (l : List ℕ) → isSpace b ≡ false → space0Of (b ∷ l) ≡ 0
+pub blanks-none : (b : ℕ) (l : List ℕ) → isSpace b ≡ false → space0Of (b ∷ l) ≡ 0
 unfolding bytesFrom
 blanks-none b l e = picks-second _ _ _ e
 
@@ -71,152 +68,129 @@ blank-free : (b : ℕ) (l : List ℕ) → isSpace b ≡ true → Free (b ∷ l)
 unfolding isAsciiWord wordOf run wordLabelled startsWith
 blank-free b l e =
     space-cases (λ c. Free (c ∷ l)) b e
-    (refl, ap (λ (m : ℕ). ltb 1 m && eqb (getD (32 ∷ l) (m - 1) 0) 0x5F) (word-ended 32 (omega arith) refl [] l))
-    (refl, ap (λ (m : ℕ). ltb 1 m && eqb (getD (9 ∷ l) (m - 1) 0) 0x5F) (word-ended 9 (omega arith) refl [] l))
+    (refl, ap (labelled (32 ∷ l)) (word-ended 32 (omega arith) refl [] l))
+    (refl, ap (labelled (9 ∷ l)) (word-ended 9 (omega arith) refl [] l))
 
-none-free : Free []
-unfolding wordOf run wordLabelled startsWith
-none-free = (refl, refl)
-
--- what stands behind them
-begins-more : (b : ℕ) (l : List ℕ) → isSpace b ≡ true → labelBegins (b ∷ l) ≡ labelBegins l
-unfolding labelBegins
-begins-more b l e = ap (λ (k : ℕ). startsWith (0x60 ∷ []) (drop k (b ∷ l)) || wordLabelled (drop k (b ∷ l))) (blanks-more b l e)
-
-begins-here : (l : List ℕ) → labelBegins l ≡ false → Free (drop (space0Of l) l)
-unfolding labelBegins
-begins-here l e = neither _ _ e
-
--- No label begins from the first of the blanks on up to the byte behind them.
-free-front : (i : ℕ) (l : List ℕ) → labelBegins l ≡ false → i ≤ space0Of l → Free (drop i l)
-free-front zero [] e h = none-free
-free-front (suc i) [] e h = none-free
-free-front zero (b ∷ l) e h =
+-- blanks are left behind the first i bytes
+free-front : (i : ℕ) (l : List ℕ) → i < space0Of l → Free (drop i l)
+unfolding bytesFrom
+free-front i [] h = absurd (omega arith)
+free-front zero (b ∷ l) h =
     ⊎-elim
     (λ f. blank-free b l f)
-    (λ f. subst (λ (k : ℕ). Free (drop k (b ∷ l))) (blanks-none b l f) (begins-here (b ∷ l) e))
-    (either (isSpace b))
-free-front (suc i) (b ∷ l) e h =
-    ⊎-elim
-    (λ f. free-front i l (sym (begins-more b l f) ∙ e) (omega (arith, h, blanks-more b l f)))
     (λ f. absurd (omega (arith, h, blanks-none b l f)))
     (either (isSpace b))
-
--- What stands behind the blanks at place n, which are q bytes.
-module _ (s : List ℕ) (n q : ℕ) (e : q ≡ space0Of (from s n)) where
-  begins-at : labelBegins (drop n s) ≡ (startsWith (0x60 ∷ []) (drop q (from s n)) || wordLabelled (drop q (from s n)))
-  unfolding labelBegins
-  begins-at = ap labelBegins (sym (part-from s n)) ∙ ap (λ (k : ℕ). startsWith (0x60 ∷ []) (drop k (from s n)) || wordLabelled (drop k (from s n))) (sym e)
-
-  -- nothing
-  pub begins-none : length (from s n) ≤ q → false ≡ labelBegins (drop n s)
-  begins-none h =
-      sym
-      (begins-at
-      ∙ ap (λ (l : List ℕ). startsWith (0x60 ∷ []) l || wordLabelled l) (drop-end (from s n) q h)
-      ∙ ap (λ (x : Bool). x || wordLabelled []) (none-free .0)
-      ∙ none-free .1)
-
-  module _ (h : q < length (from s n)) where
-    first-is : startsWith (0x60 ∷ []) (drop q (from s n)) ≡ eqb (getD (from s n) q 0) 0x60
-    first-is = ap (startsWith (0x60 ∷ [])) (drop-next (from s n) q h) ∙ starts-one 0x60 (getD (from s n) q 0) (drop (q + 1) (from s n))
-
-    -- a backtick
-    pub begins-tick : getD (from s n) q 0 ≡ 0x60 → true ≡ labelBegins (drop n s)
-    begins-tick f = sym (begins-at ∙ ap (λ (x : Bool). x || wordLabelled (drop q (from s n))) (first-is ∙ eq-eqb _ _ f))
-
-    -- another byte
-    pub begins-word : (getD (from s n) q 0 ≡ 0x60 → ⊥) → wordLabelled (drop q (from s n)) ≡ labelBegins (drop n s)
-    begins-word f = sym (begins-at ∙ ap (λ (x : Bool). x || wordLabelled (drop q (from s n))) (first-is ∙ ne-eqb _ _ f))
-
--- the parts of a further line
-abbrev startOf : Line → ℕ
-startOf (Further a m) = a
-startOf End = 0
-
-abbrev sizeOf : Line → ℕ
-sizeOf (Further a m) = m
-sizeOf End = 0
-
-line-start : {a m b n : ℕ} → Further a m ≡ Further b n → a ≡ b
-line-start e = ap startOf e
-
-line-size : {a m b n : ℕ} → Further a m ≡ Further b n → m ≡ n
-line-size e = ap sizeOf e
+free-front (suc i) (b ∷ l) h =
+    ⊎-elim
+    (λ f. free-front i l (omega (arith, h, blanks-more b l f)))
+    (λ f. absurd (omega (arith, h, blanks-none b l f)))
+    (either (isSpace b))
 
 -- a space before a target
 spaced : (r : List ℕ) → isDead r ≡ true → lineStop (0x20 ∷ r) ≡ true
 unfolding startsWith
 spaced r e = e
 
--- A further line behind a line's end of k bytes: where its text begins.
-further-is :
-    (indent s : List ℕ) (k a m : ℕ) → lineEndingOf s ≡ Taken k → furtherOf indent s ≡ Further a m
-    → (startsWith (indent ++ three) (drop k s) ≡ true) × (a ≡ k + length indent + 3) × (notLineEndingOf (drop a s) ≡ Taken m)
-further-is indent s k a m e f = go (startsWith (indent ++ three) (drop k s)) refl (notLineEndingOf (drop (k + length indent + 3) s)) refl
-  where
-    go :
-        (x : Bool) → startsWith (indent ++ three) (drop k s) ≡ x → (y : Part) → notLineEndingOf (drop (k + length indent + 3) s) ≡ y
-        → (startsWith (indent ++ three) (drop k s) ≡ true) × (a ≡ k + length indent + 3) × (notLineEndingOf (drop a s) ≡ Taken m)
-    go true g (Taken n) i =
-        let z : Further a m ≡ Further (k + length indent + 3) n = sym f ∙ further-at indent s k e ∙ picks-first _ _ _ g ∙ ap (lineAt (k + length indent + 3)) i in
-        (g, line-start z, ap (λ (j : ℕ). notLineEndingOf (drop j s)) (line-start z) ∙ i ∙ ap Taken (sym (line-size z)))
-    go true g Refused i = absurd (true≢false (ap isFurther (sym f ∙ further-at indent s k e ∙ picks-first _ _ _ g ∙ ap (lineAt (k + length indent + 3)) i)))
-    go false g y i = absurd (true≢false (ap isFurther (sym f ∙ further-at indent s k e ∙ picks-second _ _ _ g)))
+-- a test that does not hold
+starts-not : (x : Bool) → (x ≡ true → ⊥) → x ≡ false
+starts-not true f = absurd (f refl)
+starts-not false f = refl
 
--- The line's end at place i, behind a colon.
-module _ (s : List ℕ) (i : ℕ) (h : i < length s) (e : endsLine (getD s i 0) ≡ true) where
-  -- no space behind the colon, if no further line follows
+-- whether a further line follows is the same behind blanks of the line
+follows-blanks : (next : ℕ) (w q s : List ℕ) → Blank q → startsWith q s ≡ true → Follows next w s → Follows next w (drop (length q) s)
+follows-blanks next w [] s blank e t = t
+follows-blanks next w (c ∷ q) [] blank e t = absurd (omega (arith, starts-le (c ∷ q) [] e))
+follows-blanks next w (c ∷ q) (b ∷ s) blank e t =
+    let y = starts-next c b q s e in
+    follows-blanks next w q s (blank-next c q blank) (y .1) (behind (space-plain b (ap isSpace (y .0) ∙ blank 0 (omega arith)) .0))
+  where
+    behind : endsLine b ≡ false → Follows next w s
+    behind f indent n g h = t indent (suc n) g (line-taken b s f n h ∙ ap Taken (omega arith))
+
+-- No further line follows the line's end at place i, behind a colon: no space stands behind the colon.
+module _ (s : List ℕ) (i : ℕ) (e : endsLine (getD s i 0) ≡ true) where
   line-none : (indent : List ℕ) (n : ℕ) → notLineEndingOf (drop i s) ≡ Taken n → furtherOf indent (drop n (drop i s)) ≡ End → lineStop (joinedOf indent n (drop i s)) ≡ true
   unfolding startsWith
   line-none indent n t f = ap lineStop (text-alone indent s i n e t f)
 
-  -- nothing is told of a further line
-  pub line-untold : Tells lineStop (loneOf (nothing (length s)) true) (drop i s)
-  line-untold indent n b t p = go (furtherOf indent (drop n (drop i s))) refl
+  pub line-lone : ((indent : List ℕ) → Blank indent → furtherOf indent (drop i s) ≡ End) → (v : Verdict) → Tells lineStop v (drop i s)
+  line-lone f v indent n b t p =
+      line-none indent n t (ap (λ (m : ℕ). furtherOf indent (drop m (drop i s))) (ends-here indent s i n e t) ∙ f indent b)
+
+-- LF at place i, behind a colon. The next line, which has m bytes, begins with q blanks; k of them stand at the front of the line behind it too.
+module _ (s : List ℕ) (i : ℕ) (h : i < length s) (lf : getD s i 0 ≡ 10) (m : ℕ) (line : notLineEndingOf (drop (i + 1) s) ≡ Taken m) (next k : ℕ) (follows : Follows next s (drop (i + 1) s)) (shared : Shared k (drop (i + 1) s) (drop next s)) (v front : Verdict) where
+  abbrev l : List ℕ
+  l = drop (i + 1) s
+
+  abbrev q : ℕ
+  q = space0Of l
+
+  -- Behind an indent with three spaces.
+  module _ (indent : List ℕ) (blank : Blank indent) (n : ℕ) (starts : startsWith (indent ++ three) l ≡ true) (here : notLineEndingOf (drop (i + 1 + (length indent + 3)) s) ≡ Taken n) where
+    abbrev text : List ℕ
+    text = joinedOf indent n (drop (i + 1 + (length indent + 3)) s)
+
+    -- blanks are left
+    free-dead : length indent + 3 < q → destinationRun text ≡ true → isDead text ≡ true
+    free-dead g d =
+        let w = subst Free (drop-drop (length indent + 3) (i + 1) s) (free-front (length indent + 3) l g) in
+        dead-unlabelled text (first-byte indent s (i + 1 + (length indent + 3)) n 0x60 (λ (x : 0x60 ≡ 0x20). absurd (omega (arith, x))) here (w .0)) (word-joined indent (drop (i + 1 + (length indent + 3)) s) n here (w .1)) d
+
+    -- none are
+    front-on : length indent + 3 ≡ q → isFurther (furtherOf indent (drop n (drop (i + 1 + (length indent + 3)) s))) ≡ leb q k
+    front-on g =
+        let z : length (indent ++ three) ≡ length indent + 3 = length-append indent three in
+        let f = subst (Follows next s) (ap (λ (x : ℕ). drop x l) z ∙ drop-drop (length indent + 3) (i + 1) s) (follows-blanks next s (indent ++ three) l (blank-three indent blank) starts follows) in
+        f indent n blank here ∙ ⊎-elim
+        (λ y. starts-not (startsWith (indent ++ three) (drop next s)) (λ x. omega (arith, y, g, shared-fewer indent l (drop next s) k blank shared starts x)) ∙ sym (lt-leb q k y))
+        (λ y. shared-more indent l (drop next s) k shared (omega (arith, y, g)) starts ∙ sym (le-leb q k y))
+        (lt-or-le k q)
+
+    front-dead : length indent + 3 ≡ q → Tells isDead front (drop (i + 1 + q) s) → judgedOf front (leb q k) (q - 3) ≡ true → isDead text ≡ true
+    front-dead g t j =
+        let z : q - 3 ≡ length indent = omega (arith, g) in
+        subst⁻¹ (λ (x : ℕ). Tells isDead front (drop (i + 1 + x) s)) g t indent n blank here
+        (ap (λ (x : Bool). judgedOf front x (length indent)) (front-on g) ∙ ap (λ (x : ℕ). judgedOf front (leb q k) x) (sym z) ∙ j)
+
+    stop-dead :
+        length indent + 3 ≤ q → Tells isDead front (drop (i + 1 + q) s) → (judgedOf v true (length indent) ≡ true → destinationRun text ≡ true)
+        → judgedOf (stopOf q k v front) true (length indent) ≡ true → isDead text ≡ true
+    stop-dead g t d =
+        by-test (λ (x : Verdict). judgedOf x true (length indent) ≡ true → isDead text ≡ true) (leb 3 q) _ _
+        (λ a. by-test (λ (x : Verdict). judgedOf x true (length indent) ≡ true → isDead text ≡ true) (judgedOf front (leb q k) (q - 3)) _ _
+        (λ b j.
+        let w = d (judged-lone v true (length indent) j) in
+        ⊎-elim (λ y. free-dead y w) (λ y. front-dead (omega (arith, g, y)) t b) (lt-or-le (length indent + 3) q))
+        (λ b j.
+        let w = judged-both v (upToOf (q - 1)) true (length indent) (judged-lone (bothOf v (upToOf (q - 1))) true (length indent) j) in
+        free-dead (omega (arith, g, judged-up-to (q - 1) (length indent) (w .1))) (d (w .0))))
+        (λ a. absurd (omega (arith, g, leb-false 3 q a)))
+
+  pub line-front : Tells destinationRun v (drop i s) → Tells isDead front (drop (i + 1 + q) s) → Tells lineStop (stopOf q k v front) (drop i s)
+  line-front d t indent n blank here = go (startsWith (indent ++ three) l) refl
     where
-      go : (x : Line) → furtherOf indent (drop n (drop i s)) ≡ x → lineStop (joinedOf indent n (drop i s)) ≡ true
-      go (Further a k) y = tells-none s i h lineStop indent n b t (ap (λ (l : Line). judgedOf (nothing (length s)) (isFurther l) (length indent + 3)) y ∙ sym (ap (λ (l : Line). judgedOf (loneOf (nothing (length s)) true) (isFurther l) (length indent + 3)) y) ∙ p)
-      go End y = line-none indent n t y
+      zero-is : n ≡ 0
+      zero-is = ends-here indent s i n (ap endsLine lf) here
 
-  -- none can follow
-  pub line-broken : lineEndingOf (from s i) ≡ Refused → (v : Verdict) → Tells lineStop v (drop i s)
-  line-broken f v indent n b t p =
-      line-none indent n t
-      (ap (λ (m : ℕ). furtherOf indent (drop m (drop i s))) (ends-here indent s i n e t)
-      ∙ further-none-at indent (drop i s) (ap lineEndingOf (sym (part-from s i)) ∙ f))
+      same : furtherOf indent (drop n (drop i s)) ≡ furtherOf indent (10 ∷ l)
+      same = ap (λ (x : ℕ). furtherOf indent (drop x (drop i s))) zero-is ∙ ap (furtherOf indent) (lf-first s i h lf)
 
-  module _ (k : ℕ) (f : lineEndingOf (from s i) ≡ Taken k) where
-    ending : lineEndingOf (drop i s) ≡ Taken k
-    ending = ap lineEndingOf (sym (part-from s i)) ∙ f
-
-    -- the next line is within the text
-    pub next-within : i + k ≤ length s
-    next-within = omega (arith, line-ending-le (drop i s) k ending, length-drop i s)
-
-    -- where no label begins on the next line
-    module _ (g : labelBegins (drop (i + k) s) ≡ false) where
-      free-further : (indent : List ℕ) (a m : ℕ) → Blank indent → furtherOf indent (drop i s) ≡ Further a m → Free (drop (i + a) s) × (notLineEndingOf (drop (i + a) s) ≡ Taken m)
-      free-further indent a m b y =
-          let w = further-is indent (drop i s) k a m ending y in
-          let o : i + k + (length indent + 3) ≡ i + a = omega (arith, w .1) in
-          let l = blanks-long (indent ++ three) (drop (i + k) s) (blank-three indent b) (ap (startsWith (indent ++ three)) (sym (drop-drop k i s)) ∙ w .0) in (
-            subst Free (drop-drop (length indent + 3) (i + k) s ∙ ap (λ (j : ℕ). drop j s) o) (free-front (length indent + 3) (drop (i + k) s) g (omega (arith, l, length-append indent three))),
-            ap notLineEndingOf (sym (drop-drop a i s)) ∙ w .2,
-          )
-
-      -- a target there is a destination
-      pub line-told : (v : Verdict) → Tells destinationRun v (drop i s) → Tells lineStop (loneOf v true) (drop i s)
-      line-told v d indent n b t p = go (furtherOf indent (drop n (drop i s))) refl
-        where
-          go : (x : Line) → furtherOf indent (drop n (drop i s)) ≡ x → lineStop (joinedOf indent n (drop i s)) ≡ true
-          go (Further a m) y =
-              let z = ends-here indent s i n e t in
-              let y0 = ap (λ (j : ℕ). furtherOf indent (drop j (drop i s))) (sym z) ∙ y in
-              let r = joinedOf indent m (drop (i + a) s) in
-              let w : joinedOf indent n (drop i s) ≡ 0x20 ∷ r = ap (λ (j : ℕ). joinedOf indent j (drop i s)) z ∙ text-further-at indent s i a m y0 in
-              let q = free-further indent a m b y0 in
-              let u = d indent n b t (ap (λ (l : Line). judgedOf v (isFurther l) (length indent + 3)) y ∙ sym (ap (λ (l : Line). judgedOf (loneOf v true) (isFurther l) (length indent + 3)) y) ∙ p) in
-              ap lineStop w
-              ∙ spaced r (dead-unlabelled r (first-byte indent s (i + a) m 0x60 (λ (x : 0x60 ≡ 0x20). absurd (omega (arith, x))) (q .1) (q .0 .0)) (word-joined indent (drop (i + a) s) m (q .1) (q .0 .1)) (sym (ap destinationRun w ∙ run-plain 10 (escapableOf false) (λ l. false) true false 0x20 r refl refl) ∙ u))
-          go End y = line-none indent n t y
+      go :
+          (x : Bool) → startsWith (indent ++ three) l ≡ x → judgedOf (stopOf q k v front) (isFurther (furtherOf indent (drop n (drop i s)))) (length indent) ≡ true
+          → lineStop (joinedOf indent n (drop i s)) ≡ true
+      go true e p =
+          let w = lf-taken indent l blank m line e in
+          let z : length (indent ++ three) ≡ length indent + 3 = length-append indent three in
+          let y : drop (length (indent ++ three)) l ≡ drop (i + 1 + (length indent + 3)) s = ap (λ (x : ℕ). drop x l) z ∙ drop-drop (length indent + 3) (i + 1) s in
+          let r = joinedOf indent (w .0) (drop (i + 1 + (length indent + 3)) s) in
+          let u : joinedOf indent n (drop i s) ≡ 0x20 ∷ r =
+          ap (λ (x : ℕ). joinedOf indent x (drop i s)) zero-is ∙ ap (λ (x : List ℕ). joinedOf indent 0 x) (lf-first s i h lf)
+          ∙ text-further indent (10 ∷ l) (suc (length (indent ++ three))) (w .0) (w .2) ∙ ap (λ (x : List ℕ). 0x20 ∷ joinedOf indent (w .0) x) y in
+          let on : isFurther (furtherOf indent (drop n (drop i s))) ≡ true = ap isFurther (same ∙ w .2) in
+          ap lineStop u
+          ∙ spaced r
+          (stop-dead indent blank (w .0) e (ap (λ (x : List ℕ). notLineEndingOf x) (sym y) ∙ w .1)
+          (omega (arith, z, blanks-long (indent ++ three) l (blank-three indent blank) e)) t
+          (λ j. sym (ap destinationRun u ∙ run-plain 10 (escapableOf false) (λ x. false) true false 0x20 r refl refl) ∙ d indent n blank here (ap (λ (x : Bool). judgedOf v x (length indent)) on ∙ j))
+          (sym (ap (λ (x : Bool). judgedOf (stopOf q k v front) x (length indent)) on) ∙ p))
+      go false e p = line-none s i (ap endsLine lf) indent n here (same ∙ further-lf-other indent l e)

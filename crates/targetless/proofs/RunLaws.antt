@@ -2,7 +2,7 @@
 -- target is all of the text, and where one is closed the run over labels says that a wrong escape stands in it. Behind that, one step of a run and
 -- of `taking`, for the laws of names.
 -- Assumes nothing.
-use Prim.Native.Nat.{ℕ, zero, suc, _+_, _-_, _<_}
+use Prim.Native.Nat.{ℕ, zero, suc, _+_, _-_, _<_, _≤_}
 use native.Mathlib.Omega.{arith}
 use mathlib.Core.Path.{_≡_, refl, sym, ap, subst⁻¹, _∙_}
 use mathlib.Core.List.{List, [], _∷_, _++_}
@@ -11,13 +11,13 @@ use mathlib.Core.Logic.{_⊎_, inl, inr, ⊎-elim}
 use lib.Dec.{eqb, leb}
 use lib.ListN.{length, getD, drop, take, length-drop}
 use lib.Seq.{length-take-le, getD-take, getD-drop}
-use borrow.Author.Tests.{eq-eqb, ne-eqb, eqb-true, lt-ltb, leb-true, leb-false}
+use borrow.Author.Tests.{eq-eqb, ne-eqb, eqb-true, lt-ltb, leb-true, leb-false, ltb-true}
 use Rattle.rst_bytes.specs.Escaped.{isEscapable, isStop, taking}
 use Rattle.rst_bytes.specs.Tag.{startsWith}
 use Rattle.rst_bytes.specs.Word.{isAsciiWord, wordOf}
 use Rattle.rst_bytes.specs.declared.Part.{Part}
 use Rattle.rst_bytes.specs.declared.Part.the-variants.{Taken, Refused}
-use Rattle.rst_bytes.proofs.TestLaws.{picks-first, picks-second, lt-or-le}
+use Rattle.rst_bytes.proofs.TestLaws.{picks-first, picks-second, by-test, or-cases, lt-or-le}
 use Rattle.rst_bytes.proofs.TagLaws.{starts-le}
 use Rattle.rst_bytes.proofs.EscapedLaws.{refused-taken, taken-is, taken-from, taken-back, first-stop}
 use Rattle.rst_bytes.proofs.WordLaws.{word-within, word-ended}
@@ -28,10 +28,10 @@ use Rattle.restructured_text.specs.Delimited.{endsWith, backtickedOf}
 use Rattle.restructured_text.specs.Label.{labelLenMax, simpleLabelOf}
 use Rattle.restructured_text.specs.Transform.{Given, whole, refused, onto, reading, isDestinationEscapable, unescapedOf, keptOf, destinationOf, bytesOf}
 use Rattle.restructured_text.proofs.DelimitedLaws.{delimited-none, delimited-refused, delimited-is}
-use Rattle.restructured_text.proofs.LabelLaws.{word-one, word-none, raw-quoted, raw-word, simple-none, simple-empty, simple-long, simple-named}
+use Rattle.restructured_text.proofs.LabelLaws.{word-one, word-two, word-none, raw-quoted, raw-word, simple-none, simple-empty, simple-long, simple-named}
 use Rattle.restructured_text.proofs.TargetLaws.{raw-is, raw-all}
 use Rattle.targetless.specs.Verdict.{run}
-use Rattle.targetless.specs.Runs.{isRefused, isDead, escapableOf, wordLabelled, destinationRun, labelRun, labelStop}
+use Rattle.targetless.specs.Runs.{isRefused, isDead, isLong, noLabel, escapableOf, wordLabelled, destinationRun, labelRun, labelStop}
 use Rattle.targetless.proofs.VerdictLaws.{and-both, run-plain, run-stop, run-pair}
 
 -- a test holds or does not
@@ -125,13 +125,21 @@ module _ (t : List ℕ) (q : backtickedOf false t ≡ Refused) (f : wordLabelled
   word-size : length (take (wordOf t) t) ≡ wordOf t
   word-size = length-take-le (wordOf t) t (word-within t)
 
-  last-other : (i : ℕ) → i + 1 ≡ wordOf t → 0 < i → getD (take (wordOf t) t) i 0 ≡ 0x5F → ⊥
+  -- a byte of the word
+  byte-is : (i j c : ℕ) → i ≡ j → i < wordOf t → getD (take (wordOf t) t) i 0 ≡ c → getD t j 0 ≡ c
+  byte-is i j c y h e = ap (λ (k : ℕ). getD t k 0) (sym y) ∙ sym (getD-take (wordOf t) t i 0 h) ∙ e
+
+  -- a word that ends with `_` is too long
+  word-far : 1 < wordOf t → getD t (wordOf t - 1) 0 ≡ 0x5F → (1000 < wordOf t) × (getD t (wordOf t - 2) 0 ≡ 0x5F → 1001 < wordOf t)
   unfolding wordLabelled
-  last-other i h l e =
-      let y : i ≡ wordOf t - 1 = omega arith in
-      let g : getD t (wordOf t - 1) 0 ≡ 0x5F = ap (λ (j : ℕ). getD t j 0) (sym y) ∙ sym (getD-take (wordOf t) t i 0 (omega arith)) ∙ e in
-      let z : wordLabelled t ≡ true = simp (lt-ltb 1 (wordOf t) (omega arith), eq-eqb (getD t (wordOf t - 1) 0) 0x5F g) in
-      true≢false (sym z ∙ f)
+  word-far h g =
+      let z : wordLabelled t ≡ leb (wordOf t) (elim (eqb (getD t (wordOf t - 2) 0) 0x5F) [ true ↦ 1001 | false ↦ 1000 ]) = simp (lt-ltb 1 (wordOf t) h, eq-eqb (getD t (wordOf t - 1) 0) 0x5F g) in
+      by-test (λ (m : ℕ). leb (wordOf t) m ≡ false → (1000 < wordOf t) × (getD t (wordOf t - 2) 0 ≡ 0x5F → 1001 < wordOf t)) (eqb (getD t (wordOf t - 2) 0) 0x5F) 1001 1000
+      (λ e i.
+      let k = leb-false (wordOf t) 1001 i in
+      (omega (arith, k), λ j. k))
+      (λ e i. (leb-false (wordOf t) 1000 i, λ j. absurd (false≢true (sym e ∙ eq-eqb _ _ j))))
+      (sym z ∙ f)
 
   no-label : simpleLabelOf t ≡ NoLabel
   no-label = two (either (leb 3 (wordOf t))) (either (endsWith (0x5F ∷ 0x5F ∷ []) (take (wordOf t) t)))
@@ -139,7 +147,9 @@ module _ (t : List ℕ) (q : backtickedOf false t ≡ Refused) (f : wordLabelled
       one : (wordOf t < 3) ⊎ (endsWith (0x5F ∷ 0x5F ∷ []) (take (wordOf t) t) ≡ false) → (endsWith (0x5F ∷ []) (take (wordOf t) t) ≡ true) ⊎ (endsWith (0x5F ∷ []) (take (wordOf t) t) ≡ false) → simpleLabelOf t ≡ NoLabel
       one h (inl e) =
           ⊎-elim
-          (λ l. absurd (last-other (length (take (wordOf t) t) - 1 + 0) (omega (arith, word-size)) (omega (arith, word-size)) (ends-at (0x5F ∷ []) (take (wordOf t) t) 0 e (omega arith))))
+          (λ l.
+          let w = word-far l (byte-is (length (take (wordOf t) t) - 1 + 0) (wordOf t - 1) 0x5F (omega (arith, word-size)) (omega (arith, word-size)) (ends-at (0x5F ∷ []) (take (wordOf t) t) 0 e (omega arith))) in
+          simple-long t _ _ (raw-word t q ∙ word-one t _ (wordOf t) refl refl h e) (omega (arith, w .0)))
           (λ l. simple-empty t _ _ (raw-word t q ∙ word-one t _ (wordOf t) refl refl h e) (omega arith))
           (lt-or-le 1 (wordOf t))
       one h (inr e) = simple-none t (raw-word t q ∙ word-none t _ (wordOf t) refl refl h e)
@@ -147,7 +157,10 @@ module _ (t : List ℕ) (q : backtickedOf false t ≡ Refused) (f : wordLabelled
       two : (leb 3 (wordOf t) ≡ true) ⊎ (leb 3 (wordOf t) ≡ false) → (endsWith (0x5F ∷ 0x5F ∷ []) (take (wordOf t) t) ≡ true) ⊎ (endsWith (0x5F ∷ 0x5F ∷ []) (take (wordOf t) t) ≡ false) → simpleLabelOf t ≡ NoLabel
       two (inl l) (inl e) =
           let g = leb-true 3 (wordOf t) l in
-          absurd (last-other (length (take (wordOf t) t) - 2 + 1) (omega (arith, word-size)) (omega (arith, word-size)) (ends-at (0x5F ∷ 0x5F ∷ []) (take (wordOf t) t) 1 e (omega arith)))
+          let r = take (wordOf t) t in
+          let w = word-far (omega arith) (byte-is (length r - 2 + 1) (wordOf t - 1) 0x5F (omega (arith, word-size)) (omega (arith, word-size)) (ends-at (0x5F ∷ 0x5F ∷ []) r 1 e (omega arith))) in
+          let k = w .1 (byte-is (length r - 2 + 0) (wordOf t - 2) 0x5F (omega (arith, word-size)) (omega (arith, word-size)) (ends-at (0x5F ∷ 0x5F ∷ []) r 0 e (omega arith))) in
+          simple-long t _ _ (raw-word t q ∙ word-two t _ (wordOf t) refl refl g e) (omega (arith, k))
       two (inl l) (inr e) = one (inr e) (either (endsWith (0x5F ∷ []) (take (wordOf t) t)))
       two (inr l) e = one (inl (leb-false 3 (wordOf t) l)) (either (endsWith (0x5F ∷ []) (take (wordOf t) t)))
 
@@ -173,12 +186,16 @@ dead-refused v d =
 pub dead-unlabelled : (t : List ℕ) → startsWith (0x60 ∷ []) t ≡ false → wordLabelled t ≡ false → destinationRun t ≡ true → isDead t ≡ true
 dead-unlabelled t e f g = whole-dead t (no-label t (delimited-none (0x60 ∷ []) 0x60 0x60 (0x60 ∷ 0x5F ∷ []) t e) f) g
 
--- a backtick begins no word
-word-tick : (r : List ℕ) → wordLabelled (0x60 ∷ r) ≡ false
-unfolding wordLabelled isAsciiWord
-word-tick r =
-    let z : wordOf (0x60 ∷ r) ≡ 0 = omega (arith, word-ended 0x60 (omega arith) refl [] r, word-within []) in
+-- a byte that begins no word begins no label
+pub word-other : (b : ℕ) (r : List ℕ) → b < 0x80 → isAsciiWord b ≡ false → wordLabelled (b ∷ r) ≡ false
+unfolding wordLabelled
+word-other b r h e =
+    let z : wordOf (b ∷ r) ≡ 0 = omega (arith, word-ended b h e [] r, word-within []) in
     rw z refl
+
+word-tick : (r : List ℕ) → wordLabelled (0x60 ∷ r) ≡ false
+unfolding isAsciiWord
+word-tick r = word-other 0x60 r (omega arith) refl
 
 tick-starts : (r : List ℕ) → startsWith (0x60 ∷ []) (0x60 ∷ r) ≡ true
 unfolding startsWith
@@ -260,14 +277,18 @@ label-refused (b ∷ c ∷ r) a (suc n) e f g =
     (either (eqb b 0x5C))
 
 -- a label that is closed is the target, unless it is empty or too long
-pub dead-ticked : (r : List ℕ) → destinationRun (0x60 ∷ r) ≡ true → labelRun r ≡ true → isDead (0x60 ∷ r) ≡ true
+pub dead-ticked : (r : List ℕ) → destinationRun (0x60 ∷ r) ≡ true → noLabel r ≡ true → isDead (0x60 ∷ r) ≡ true
 unfolding isDead
 dead-ticked r e f = go (backtickedOf false (0x60 ∷ r)) refl
   where
-    inner : (n : ℕ) → backtickedOf false (0x60 ∷ r) ≡ Taken n → isRefused (keptOf (take n r)) ≡ true
-    inner n g =
+    inner : (n : ℕ) → backtickedOf false (0x60 ∷ r) ≡ Taken n → n ≤ labelLenMax → isRefused (keptOf (take n r)) ≡ true
+    inner n g m =
         let d = delimited-is (0x60 ∷ []) 0x60 0x60 (0x60 ∷ 0x5F ∷ []) (0x60 ∷ r) n g in
-        label-refused r 0 n (taken-from 0x60 0x60 0 r n (d .inner)) (d .ends) f
+        label-refused r 0 n (taken-from 0x60 0x60 0 r n (d .inner)) (d .ends)
+        (⊎-elim
+        (λ i. i)
+        (λ i. absurd (omega (arith, m, ltb-true labelLenMax n (sym (ap isLong g) ∙ i))))
+        (or-cases (labelRun r) _ f))
 
     go : (x : Part) → backtickedOf false (0x60 ∷ r) ≡ x → isDead (0x60 ∷ r) ≡ true
     go Refused g = whole-dead (0x60 ∷ r) (no-label (0x60 ∷ r) g (word-tick r)) e
@@ -278,7 +299,7 @@ dead-ticked r e f = go (backtickedOf false (0x60 ∷ r)) refl
         (λ m.
         ap (λ (y : Raw). isRefused (keptOf (take (y .len) (drop (y .start) (0x60 ∷ r)))))
         (raw-is (0x60 ∷ r) (rawOf (0x60 ∷ r)) refl _ (simple-named (0x60 ∷ r) _ _ (raw-quoted (0x60 ∷ r) n g) (λ z. omega (arith, z, l)) m))
-        ∙ inner n g)
+        ∙ inner n g m)
         (lt-or-le labelLenMax n))
         (λ l. whole-dead (0x60 ∷ r) (simple-empty (0x60 ∷ r) _ _ (raw-quoted (0x60 ∷ r) n g) (omega arith)) e)
         (lt-or-le 0 n)

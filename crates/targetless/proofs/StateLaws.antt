@@ -25,7 +25,7 @@ use Rattle.restructured_text.specs.Transform.{isDestinationEscapable}
 use Rattle.rst_bytes.specs.Escaped.{isEscapable}
 use Rattle.targetless.specs.declared.Verdict.{Verdict}
 use Rattle.targetless.specs.Verdict.{joinedOf, endsLine, Tells, nothing, everything, bothOf, escapeOf, run}
-use Rattle.targetless.specs.Runs.{escapableOf, wordLabelled, isDead, destinationRun, labelStop, labelRun, plainStop, lineStop, plainRun, quotedStop, quotedRun, closedStop, closedRun}
+use Rattle.targetless.specs.Runs.{escapableOf, wordLabelled, isDead, destinationRun, labelStop, noLabel, labelRun, plainStop, lineStop, plainRun, quotedStop, quotedRun, closedStop, closedRun}
 use Rattle.targetless.proofs.TextLaws.{text-byte, text-end, text-further, line-stops}
 use Rattle.targetless.proofs.VerdictLaws.{and-both, tells-nothing, tells-all, tells-from, tells-both, tells-behind, tells-plain, tells-stop, tells-escape}
 use Rattle.targetless.proofs.RunLaws.{dead-unlabelled, dead-two-ticks, dead-ticked}
@@ -134,37 +134,37 @@ module _ (s : List ℕ) (i : ℕ) (h : i < length s) where
   module _ (f : getD s i 0 ≡ 0x5C) (near far : Verdict) where
     pub escape-destination :
         Tells destinationRun near (drop (i + 1) s) → Tells destinationRun far (drop (i + 2) s)
-        → Tells destinationRun (escapeOf (length s) (escapableOf false) true near far (drop i s)) (drop i s)
+        → Tells destinationRun (escapeOf (escapableOf false) true near far (drop i s)) (drop i s)
     unfolding isDestinationEscapable
     escape-destination k j = tells-escape 10 (escapableOf false) (λ t. false) true false near far s i h f refl (λ (x : 10 ≡ 0x20). absurd (omega (arith, x))) k j
 
     pub escape-label :
         Tells labelRun near (drop (i + 1) s) → Tells labelRun far (drop (i + 2) s)
-        → Tells labelRun (escapeOf (length s) (escapableOf false) true near far (drop i s)) (drop i s)
+        → Tells labelRun (escapeOf (escapableOf false) true near far (drop i s)) (drop i s)
     unfolding isDestinationEscapable
     escape-label k j = tells-escape 0x60 (escapableOf false) labelStop true true near far s i h f refl (λ (x : 0x60 ≡ 0x20). absurd (omega (arith, x))) k j
 
     pub escape-plain :
         Tells plainRun near (drop (i + 1) s) → Tells plainRun far (drop (i + 2) s)
-        → Tells plainRun (escapeOf (length s) (escapableOf true) true near far (drop i s)) (drop i s)
+        → Tells plainRun (escapeOf (escapableOf true) true near far (drop i s)) (drop i s)
     unfolding isEscapable
     escape-plain k j = tells-escape 0x3A (escapableOf true) plainStop true true near far s i h f refl (λ (x : 0x3A ≡ 0x20). absurd (omega (arith, x))) k j
 
     pub escape-quoted :
         Tells quotedRun near (drop (i + 1) s) → Tells quotedRun far (drop (i + 2) s)
-        → Tells quotedRun (escapeOf (length s) (escapableOf true) true near far (drop i s)) (drop i s)
+        → Tells quotedRun (escapeOf (escapableOf true) true near far (drop i s)) (drop i s)
     unfolding isEscapable
     escape-quoted k j = tells-escape 0x60 (escapableOf true) quotedStop true true near far s i h f refl (λ (x : 0x60 ≡ 0x20). absurd (omega (arith, x))) k j
 
     pub escape-closed :
         Tells closedRun near (drop (i + 1) s) → Tells closedRun far (drop (i + 2) s)
-        → Tells closedRun (escapeOf (length s) (escapableOf true) false near far (drop i s)) (drop i s)
+        → Tells closedRun (escapeOf (escapableOf true) false near far (drop i s)) (drop i s)
     unfolding isEscapable
     escape-closed k j = tells-escape 0x60 (escapableOf true) closedStop false false near far s i h f refl (λ (x : 0x60 ≡ 0x20). absurd (omega (arith, x))) k j
 
   -- nothing is told
-  pub tells-none : (g : List ℕ → Bool) → Tells g (nothing (length s)) (drop i s)
-  tells-none g = tells-nothing g (length s) (drop i s) (omega (arith, length-drop i s))
+  pub tells-none : (g : List ℕ → Bool) → Tells g nothing (drop i s)
+  tells-none g = tells-nothing g (drop i s)
 
   module _ (e : endsLine (getD s i 0) ≡ false) where
     -- a text begins with the line's byte
@@ -202,7 +202,7 @@ module _ (s : List ℕ) (i : ℕ) (h : i < length s) where
 
     -- At a backtick.
     module _ (f : getD s i 0 ≡ 0x60) where
-      pub label-open : startsWith (0x60 ∷ 0x5F ∷ []) (from s i) ≡ false → Tells labelStop (everything (length s)) (drop i s)
+      pub label-open : startsWith (0x60 ∷ 0x5F ∷ []) (from s i) ≡ false → Tells labelStop (everything) (drop i s)
       unfolding startsWith
       label-open k =
           tells-all labelStop _ (drop i s) (λ indent n t.
@@ -211,7 +211,7 @@ module _ (s : List ℕ) (i : ℕ) (h : i < length s) where
           ap labelStop (z .4 ∙ ap (λ (b : ℕ). b ∷ z .0) f ∙ ap (λ (l : List ℕ). 0x60 ∷ l) (z .3)) ∙ ap not q)
 
       -- it closes no name
-      pub quoted-open : startsWith (0x60 ∷ 0x3A ∷ []) (from s i) ≡ false → Tells quotedStop (everything (length s)) (drop i s)
+      pub quoted-open : startsWith (0x60 ∷ 0x3A ∷ []) (from s i) ≡ false → Tells quotedStop (everything) (drop i s)
       unfolding startsWith
       quoted-open k =
           tells-all quotedStop _ (drop i s) (λ indent n t.
@@ -239,7 +239,7 @@ module _ (s : List ℕ) (i : ℕ) (h : i < length s) where
           same (b ∷ r) q = q
 
       -- it closes a name
-      pub closed-tick : startsWith (0x60 ∷ 0x3A ∷ 0x20 ∷ []) (from s i) ≡ true → Tells closedStop (everything (length s)) (drop i s)
+      pub closed-tick : startsWith (0x60 ∷ 0x3A ∷ 0x20 ∷ []) (from s i) ≡ true → Tells closedStop (everything) (drop i s)
       unfolding startsWith
       closed-tick k =
           tells-all closedStop _ (drop i s) (λ indent n t.
@@ -262,12 +262,12 @@ module _ (s : List ℕ) (i : ℕ) (h : i < length s) where
           ap isDead w ∙ dead-two-ticks r (sym (ap destinationRun w) ∙ p))
 
       pub target-ticked :
-          (a b : Verdict) → Tells destinationRun a (drop i s) → Tells labelRun b (drop (i + 1) s) → Tells isDead (bothOf a b) (drop i s)
+          (a b : Verdict) → Tells destinationRun a (drop i s) → Tells noLabel b (drop (i + 1) s) → Tells isDead (bothOf a b) (drop i s)
       target-ticked a b g j =
-          tells-from (λ t. destinationRun t && labelRun (drop 1 t)) isDead (bothOf a b) (drop i s) (tells-both destinationRun (λ t. labelRun (drop 1 t)) a b (drop i s) g (tells-behind labelRun b s i h e j)) (λ indent n t p.
+          tells-from (λ t. destinationRun t && noLabel (drop 1 t)) isDead (bothOf a b) (drop i s) (tells-both destinationRun (λ t. noLabel (drop 1 t)) a b (drop i s) g (tells-behind noLabel b s i h e j)) (λ indent n t p.
           let z = begins indent n t in
           let w : joinedOf indent n (drop i s) ≡ 0x60 ∷ z .0 = z .4 ∙ ap (λ (c : ℕ). c ∷ z .0) f in
-          let q = and-both _ _ (sym (ap (λ (l : List ℕ). destinationRun l && labelRun (drop 1 l)) w) ∙ p) in
+          let q = and-both _ _ (sym (ap (λ (l : List ℕ). destinationRun l && noLabel (drop 1 l)) w) ∙ p) in
           ap isDead w ∙ dead-ticked (z .0) (q .0) (q .1))
 
     -- Another target, where no word that is a label begins.
@@ -281,7 +281,7 @@ module _ (s : List ℕ) (i : ℕ) (h : i < length s) where
     -- At a colon.
     module _ (f : getD s i 0 ≡ 0x3A) where
       -- the last byte
-      pub plain-last : length s ≤ i + 1 → Tells plainStop (everything (length s)) (drop i s)
+      pub plain-last : length s ≤ i + 1 → Tells plainStop (everything) (drop i s)
       unfolding startsWith
       plain-last k =
           tells-all plainStop _ (drop i s) (λ indent n t.
@@ -289,7 +289,7 @@ module _ (s : List ℕ) (i : ℕ) (h : i < length s) where
           ap plainStop (z .4 ∙ ap (λ (c : ℕ). c ∷ z .0) f ∙ ap (λ (l : List ℕ). 0x3A ∷ l) (z .3 ∙ text-none indent s (i + 1) (z .1) k (z .2))))
 
       -- no space behind it
-      pub plain-other : i + 1 < length s → endsLine (getD s (i + 1) 0) ≡ false → (getD s (i + 1) 0 ≡ 0x20 → ⊥) → Tells plainStop (everything (length s)) (drop i s)
+      pub plain-other : i + 1 < length s → endsLine (getD s (i + 1) 0) ≡ false → (getD s (i + 1) 0 ≡ 0x20 → ⊥) → Tells plainStop (everything) (drop i s)
       unfolding startsWith
       plain-other j q g =
           tells-all plainStop _ (drop i s) (λ indent n t.

@@ -56,7 +56,7 @@ module _ (b : ℕ) (l : List ℕ) (e : endsLine b ≡ false) where
   line-refused : notLineEndingOf l ≡ Refused → notLineEndingOf (b ∷ l) ≡ Refused
   line-refused f = line-more ∙ ap (later 1) f
 
-  line-taken : (m : ℕ) → notLineEndingOf l ≡ Taken m → notLineEndingOf (b ∷ l) ≡ Taken (1 + m)
+  pub line-taken : (m : ℕ) → notLineEndingOf l ≡ Taken m → notLineEndingOf (b ∷ l) ≡ Taken (1 + m)
   line-taken m f = line-more ∙ ap (later 1) f
 
   -- the line behind it

@@ -2,21 +2,24 @@
 -- which the run passes, stops at or reads with the next one. Over a line's end the run passes a space and then the blanks before the next line, or
 -- ends; whether a further line stands behind that one the blanks say that both lines have in common.
 -- Assumes nothing.
-use Prim.Native.Nat.{ℕ, zero, suc, _+_, _<_, _≤_}
+use Prim.Native.Nat.{ℕ, zero, suc, _+_, _-_, _^_, _<_, _≤_}
 use native.Mathlib.Omega.{arith}
+use native.Mathlib.Nat.{div-one}
+use lib.Bits.{bitAnd}
+use lib.Pow.{pow-lt}
 use mathlib.Core.Path.{_≡_, refl, sym, ap, subst, subst⁻¹, _∙_}
 use mathlib.Core.List.{List, [], _∷_, _++_}
 use mathlib.Core.Bool.{Bool, true, false, _&&_, _||_, false≢true, true≢false}
 use mathlib.Core.Logic.{_⊎_, inl, inr, ⊎-elim}
-use lib.Dec.{eqb, leb, ltb}
+use lib.Dec.{eqb, ltb}
 use lib.ListN.{length, getD, drop, length-drop, length-append}
 use lib.Seq.{drop-drop}
-use borrow.Author.Tests.{eq-eqb, ne-eqb, eqb-true, leb-true, ltb-true, ltb-false, le-leb, lt-ltb}
+use borrow.Author.Tests.{eq-eqb, ne-eqb, eqb-true, ltb-true, ltb-false, lt-ltb, le-ltb}
 use Rattle.rst_bytes.specs.Line.{lineFrom, notLineEndingOf, isSpace}
 use Rattle.rst_bytes.specs.Tag.{startsWith}
 use Rattle.rst_bytes.specs.declared.Part.the-variants.{Taken, Refused}
 use Rattle.rst_bytes.proofs.Lists.{drop-next, drop-end}
-use Rattle.rst_bytes.proofs.TestLaws.{picks-first, picks-second, by-test, or-cases, lt-or-le}
+use Rattle.rst_bytes.proofs.TestLaws.{picks-first, picks-second, by-test, by-test₂, or-cases, lt-or-le}
 use Rattle.rst_bytes.proofs.EscapedLaws.{refused-taken, taken-is}
 use Rattle.rst_bytes.proofs.LineLaws.{ending-none, not-line-ending-le}
 use Rattle.rst_bytes.proofs.TagLaws.{starts-le, starts-shorter}
@@ -24,20 +27,41 @@ use Rattle.restructured_text.specs.declared.block.Line.{Line}
 use Rattle.restructured_text.specs.declared.block.Line.the-variants.{Further, End}
 use Rattle.restructured_text.specs.Block.{three, lineAt, furtherOf}
 use Rattle.targetless.specs.declared.Verdict.{Verdict}
-use Rattle.targetless.specs.Verdict.{joinedOf, isFurther, Blank, bitOf, isLone, minOf, maxOf, everything, nothing, sureOf, bothOf, loneOf, overOf, judgedOf, Tells, run, endsLine, escapeOf, Follows, Shared}
+use Rattle.targetless.specs.Verdict.{joinedOf, isFurther, Blank, bitAt, isLone, everything, nothing, sureOf, bothOf, eitherOf, lessOf, upToOf, beyondOf, loneOf, overOf, judgedOf, Tells, run, endsLine, escapeOf, Follows, Shared}
+use Rattle.targetless.proofs.BitLaws.{bit-is, bit-both, bit-either, bit-small, bit-none, bit-ones, bit-beyond}
 use Rattle.targetless.proofs.TextLaws.{line-behind, line-behind-refused, line-here, line-stops, text-end, text-further, further-lf-other, further-lf-starts, further-long, further-none-at, crlf-further, crlf-text, crlf-here, crlf-next, crlf-first, lf-first}
 
+-- What a verdict says where a further line follows.
+judged-cases : (v : Verdict) (k : ℕ) → judgedOf v true k ≡ true → ((k < 63) × (bitAt (v .short) (k + 1) ≡ true)) ⊎ ((63 ≤ k) × (k < 127) × (bitAt (v .long) (k - 63) ≡ true))
+judged-cases v k =
+    by-test (λ (x : Bool). x ≡ true → ((k < 63) × (bitAt (v .short) (k + 1) ≡ true)) ⊎ ((63 ≤ k) × (k < 127) × (bitAt (v .long) (k - 63) ≡ true))) (ltb k 63) _ _
+    (λ e j. inl (ltb-true k 63 e, j))
+    (λ e. by-test (λ (x : Bool). x ≡ true → ((k < 63) × (bitAt (v .short) (k + 1) ≡ true)) ⊎ ((63 ≤ k) × (k < 127) × (bitAt (v .long) (k - 63) ≡ true))) (ltb k 127) _ _
+    (λ f j. inr (ltb-false k 63 e, ltb-true k 127 f, j))
+    (λ f j. absurd (false≢true j)))
+
+judged-short : (v : Verdict) (k : ℕ) → k < 63 → bitAt (v .short) (k + 1) ≡ true → judgedOf v true k ≡ true
+judged-short v k h e = picks-first (ltb k 63) _ _ (lt-ltb k 63 h) ∙ e
+
+judged-long : (v : Verdict) (k : ℕ) → 63 ≤ k → k < 127 → bitAt (v .long) (k - 63) ≡ true → judgedOf v true k ≡ true
+judged-long v k h g e = picks-second (ltb k 63) _ _ (le-ltb k 63 h) ∙ picks-first (ltb k 127) _ _ (lt-ltb k 127 g) ∙ e
+
+-- by the bits of two verdicts
+judged-map :
+    (v w : Verdict) (k : ℕ) → (bitAt (v .short) (k + 1) ≡ true → bitAt (w .short) (k + 1) ≡ true)
+    → (63 ≤ k → bitAt (v .long) (k - 63) ≡ true → bitAt (w .long) (k - 63) ≡ true) → judgedOf v true k ≡ true → judgedOf w true k ≡ true
+judged-map v w k f g =
+    by-test₂ (λ (x y : Bool). x ≡ true → y ≡ true) (ltb k 63) _ _ _ _
+    (λ e. f)
+    (λ e. by-test₂ (λ (x y : Bool). x ≡ true → y ≡ true) (ltb k 127) _ _ _ _ (λ i. g (ltb-false k 63 e)) (λ i j. j))
+
 -- nothing is told
-pub tells-nothing : (f : List ℕ → Bool) (n : ℕ) (s : List ℕ) → length s ≤ n → Tells f (nothing n) s
-tells-nothing f n s h indent k blank e = go (isFurther (furtherOf indent (drop k s))) refl
-  where
-    go : (x : Bool) → isFurther (furtherOf indent (drop k s)) ≡ x → judgedOf (nothing n) x (length indent + 3) ≡ true → f (joinedOf indent k s) ≡ true
-    go true g j =
-        ⊎-elim
-        (λ l. absurd (omega (arith, leb-true (length indent + 3) 0 l)))
-        (λ l. absurd (omega (arith, ltb-true n (length indent + 3) l, further-long indent (drop k s) g, length-drop k s)))
-        (or-cases (leb (length indent + 3) 0) (ltb n (length indent + 3)) j)
-    go false g j = absurd (false≢true j)
+nothing-judged : (x : Bool) (k : ℕ) → judgedOf nothing x k ≡ true → ⊥
+nothing-judged true k j = ⊎-elim (λ w. bit-none (k + 1) (w .1)) (λ w. bit-none (k - 63) (w .2)) (judged-cases nothing k j)
+nothing-judged false k j = false≢true j
+
+pub tells-nothing : (f : List ℕ → Bool) (s : List ℕ) → Tells f nothing s
+tells-nothing f s indent k blank e j = absurd (nothing-judged (isFurther (furtherOf indent (drop k s))) (length indent) j)
 
 -- no block has a line that is refused
 pub tells-refused : (f : List ℕ → Bool) (v : Verdict) (s : List ℕ) → notLineEndingOf s ≡ Refused → Tells f v s
@@ -54,61 +78,111 @@ pub tells-from :
 tells-from f g v s t h indent n blank e j = h indent n e (t indent n blank e j)
 
 -- what is sure
-pub tells-sure : (f : List ℕ → Bool) (sure : Bool) (n : ℕ) (s : List ℕ) → length s ≤ n → ((indent : List ℕ) (m : ℕ) → notLineEndingOf s ≡ Taken m → f (joinedOf indent m s) ≡ sure) → Tells f (sureOf sure n) s
-tells-sure f true n s h g = tells-all f (everything n) s g
-tells-sure f false n s h g = tells-nothing f n s h
-
--- The smaller and the greater of two numbers.
-min-le : (m a b : ℕ) → m ≤ minOf a b → (m ≤ a) × (m ≤ b)
-min-le m a b = by-test (λ k. m ≤ k → (m ≤ a) × (m ≤ b)) (ltb a b) a b (λ e h. (h, omega (arith, ltb-true a b e, h))) (λ e h. (omega (arith, ltb-false a b e, h), h))
-
-max-lt : (m a b : ℕ) → maxOf a b < m → (a < m) × (b < m)
-max-lt m a b = by-test (λ k. k < m → (a < m) × (b < m)) (ltb a b) b a (λ e h. (omega (arith, ltb-true a b e, h), h)) (λ e h. (h, omega (arith, ltb-false a b e, h)))
-
-min-lt : (m a b : ℕ) → minOf a b < m → m ≤ a → b < m
-min-lt m a b = by-test (λ k. k < m → m ≤ a → b < m) (ltb a b) a b (λ e h g. absurd (omega arith)) (λ e h g. h)
-
-bit-lone : (b : Bool) → ltb 0 (bitOf b) ≡ b
-bit-lone true = refl
-bit-lone false = refl
-
--- A verdict where a further line follows.
-judged-low : (v : Verdict) (m : ℕ) → m ≤ v .low → judgedOf v true m ≡ true
-judged-low v m h = ap (λ (x : Bool). x || ltb (v .high) m) (le-leb m (v .low) h)
-
-or-second : (a b : Bool) → b ≡ true → (a || b) ≡ true
-or-second true b e = refl
-or-second false b e = e
-
-judged-high : (v : Verdict) (m : ℕ) → v .high < m → judgedOf v true m ≡ true
-judged-high v m h = or-second (leb m (v .low)) (ltb (v .high) m) (lt-ltb (v .high) m h)
-
-judged-cases : (v : Verdict) (m : ℕ) → judgedOf v true m ≡ true → (m ≤ v .low) ⊎ (v .high < m)
-judged-cases v m e = ⊎-elim (λ l. inl (leb-true m (v .low) l)) (λ l. inr (ltb-true (v .high) m l)) (or-cases (leb m (v .low)) (ltb (v .high) m) e)
+pub tells-sure : (f : List ℕ → Bool) (sure : Bool) (s : List ℕ) → ((indent : List ℕ) (m : ℕ) → notLineEndingOf s ≡ Taken m → f (joinedOf indent m s) ≡ sure) → Tells f (sureOf sure) s
+tells-sure f true s g = tells-all f everything s g
+tells-sure f false s g = tells-nothing f s
 
 pub and-both : (a b : Bool) → (a && b) ≡ true → (a ≡ true) × (b ≡ true)
 and-both true b e = (refl, e)
 and-both false b e = absurd (false≢true e)
 
-judged-both : (a b : Verdict) (x : Bool) (m : ℕ) → judgedOf (bothOf a b) x m ≡ true → (judgedOf a x m ≡ true) × (judgedOf b x m ≡ true)
-judged-both a b false m e =
-    let w = min-le 1 (a .lone) (b .lone) (ltb-true 0 (minOf (a .lone) (b .lone)) e) in
-    (lt-ltb 0 (a .lone) (w .0), lt-ltb 0 (b .lone) (w .1))
-judged-both a b true m e =
+-- What two verdicts say, for all indents and where no further line follows.
+lone-digit : (v : Verdict) → isLone v ≡ true → bitAt (v .short) 0 ≡ true
+unfolding bitAt
+lone-digit v e = ap (λ (x : ℕ). eqb (bitAnd x 1) 1) (div-one (v .short)) ∙ e
+
+digit-lone : (v : Verdict) → bitAt (v .short) 0 ≡ true → isLone v ≡ true
+unfolding bitAt
+digit-lone v e = sym (ap (λ (x : ℕ). eqb (bitAnd x 1) 1) (div-one (v .short))) ∙ e
+
+pub judged-both : (a b : Verdict) (x : Bool) (k : ℕ) → judgedOf (bothOf a b) x k ≡ true → (judgedOf a x k ≡ true) × (judgedOf b x k ≡ true)
+judged-both a b true k j = (
+  judged-map (bothOf a b) a k (λ e. bit-both (a .short) (b .short) (k + 1) e .0) (λ h e. bit-both (a .long) (b .long) (k - 63) e .0) j,
+  judged-map (bothOf a b) b k (λ e. bit-both (a .short) (b .short) (k + 1) e .1) (λ h e. bit-both (a .long) (b .long) (k - 63) e .1) j,
+)
+judged-both a b false k j =
+    let w = bit-both (a .short) (b .short) 0 (lone-digit (bothOf a b) j) in
+    (digit-lone a (w .0), digit-lone b (w .1))
+
+judged-either : (a b : Verdict) (x : Bool) (k : ℕ) → judgedOf (eitherOf a b) x k ≡ true → (judgedOf a x k ≡ true) ⊎ (judgedOf b x k ≡ true)
+judged-either a b true k j =
     ⊎-elim
-    (λ l.
-    let w = min-le m (a .low) (b .low) l in
-    (judged-low a m (w .0), judged-low b m (w .1)))
-    (λ l.
-    let w = max-lt m (a .high) (b .high) l in
-    (judged-high a m (w .0), judged-high b m (w .1)))
-    (judged-cases (bothOf a b) m e)
+    (λ w. ⊎-elim
+    (λ e. inl (judged-short a k (w .0) e))
+    (λ e. inr (judged-short b k (w .0) e))
+    (bit-either (a .short) (b .short) (k + 1) (w .1)))
+    (λ w. ⊎-elim
+    (λ e. inl (judged-long a k (w .0) (w .1) e))
+    (λ e. inr (judged-long b k (w .0) (w .1) e))
+    (bit-either (a .long) (b .long) (k - 63) (w .2)))
+    (judged-cases (eitherOf a b) k j)
+judged-either a b false k j =
+    ⊎-elim
+    (λ e. inl (digit-lone a e))
+    (λ e. inr (digit-lone b e))
+    (bit-either (a .short) (b .short) 0 (lone-digit (eitherOf a b) j))
+
+-- the indents of at most m bytes with three spaces
+less-small : (a b k : ℕ) → k < lessOf a b → k + b < a
+less-small a b k = by-test (λ (x : ℕ). k < x → k + b < a) (ltb a b) 0 (a - b) (λ e h. absurd (omega arith)) (λ e h. omega (arith, ltb-false a b e, h))
+
+small-less : (a b k : ℕ) → k + b < a → k < lessOf a b
+small-less a b k h = by-test (λ (x : ℕ). k < x) (ltb a b) 0 (a - b) (λ e. absurd (omega (arith, ltb-true a b e, h))) (λ e. omega (arith, h))
+
+pub judged-up-to : (m k : ℕ) → judgedOf (upToOf m) true k ≡ true → k + 3 ≤ m
+judged-up-to m k j =
+    ⊎-elim
+    (λ w. omega (arith, less-small m 1 (k + 1) (bit-ones (lessOf m 1) (k + 1) (w .1))))
+    (λ w. omega (arith, w .0, less-small m 65 (k - 63) (bit-ones (lessOf m 65) (k - 63) (w .2))))
+    (judged-cases (upToOf m) k j)
+
+judged-beyond : (m k : ℕ) → k + 3 ≤ m → judgedOf (beyondOf m) true k ≡ true → ⊥
+judged-beyond m k h j =
+    ⊎-elim
+    (λ w. bit-beyond (lessOf m 1) (k + 1) (small-less m 1 (k + 1) (omega arith)) (w .1))
+    (λ w. bit-beyond (lessOf m 65) (k - 63) (small-less m 65 (k - 63) (omega (arith, w .0))) (w .2))
+    (judged-cases (beyondOf m) k j)
+
+-- with another answer where no further line follows
+one-small : (k : ℕ) → 1 < 2 ^ (k + 1)
+one-small k = let h : 2 ^ 0 < 2 ^ (k + 1) = pow-lt {i = 0} {j = k + 1} (omega arith) in h
+
+pub or-second : (a b : Bool) → b ≡ true → (a || b) ≡ true
+or-second true b e = refl
+or-second false b e = e
+
+pub judged-lone : (v : Verdict) (lone : Bool) (k : ℕ) → judgedOf (loneOf v lone) true k ≡ true → judgedOf v true k ≡ true
+judged-lone v true k = judged-map (loneOf v true) v k (λ e. ⊎-elim (λ f. f) (λ f. absurd (bit-small 1 (k + 1) (one-small k) f)) (bit-either (v .short) 1 (k + 1) e)) (λ h e. e)
+judged-lone v false k = judged-map (loneOf v false) v k (λ e. bit-both (v .short) 0xffff_ffff_ffff_fffe (k + 1) e .0) (λ h e. e)
+
+pub lone-is : (v : Verdict) (lone : Bool) (k : ℕ) → judgedOf (loneOf v lone) false k ≡ true → lone ≡ true
+lone-is v true k j = refl
+lone-is v false k j = absurd (omega (arith, sym (bit-is 0xffff_ffff_ffff_fffe 0 (bit-both (v .short) 0xffff_ffff_ffff_fffe 0 (lone-digit (loneOf v false) j) .1))))
 
 -- what both say
 pub tells-both : (f g : List ℕ → Bool) (a b : Verdict) (s : List ℕ) → Tells f a s → Tells g b s → Tells (λ t. f t && g t) (bothOf a b) s
 tells-both f g a b s t u indent n blank e j =
-    let w = judged-both a b (isFurther (furtherOf indent (drop n s))) (length indent + 3) j in
+    let w = judged-both a b (isFurther (furtherOf indent (drop n s))) (length indent) j in
     ap (λ (x : Bool). x && g (joinedOf indent n s)) (t indent n blank e (w .0)) ∙ u indent n blank e (w .1)
+
+-- what one says
+pub tells-either : (f g : List ℕ → Bool) (a b : Verdict) (s : List ℕ) → Tells f a s → Tells g b s → Tells (λ t. f t || g t) (eitherOf a b) s
+tells-either f g a b s t u indent n blank e j =
+    ⊎-elim
+    (λ w. ap (λ (x : Bool). x || g (joinedOf indent n s)) (t indent n blank e w))
+    (λ w. or-second (f (joinedOf indent n s)) (g (joinedOf indent n s)) (u indent n blank e w))
+    (judged-either a b (isFurther (furtherOf indent (drop n s))) (length indent) j)
+
+-- what is told where a further line follows alone
+pub tells-lone :
+    (f : List ℕ → Bool) (v : Verdict) (lone : Bool) (s : List ℕ) → Tells f v s
+    → ((indent : List ℕ) (n : ℕ) → Blank indent → notLineEndingOf s ≡ Taken n → isFurther (furtherOf indent (drop n s)) ≡ false → lone ≡ true → f (joinedOf indent n s) ≡ true)
+    → Tells f (loneOf v lone) s
+tells-lone f v lone s t h indent n blank e = go (isFurther (furtherOf indent (drop n s))) refl
+  where
+    go : (x : Bool) → isFurther (furtherOf indent (drop n s)) ≡ x → judgedOf (loneOf v lone) x (length indent) ≡ true → f (joinedOf indent n s) ≡ true
+    go true g j = t indent n blank e (ap (λ (x : Bool). judgedOf v x (length indent)) g ∙ judged-lone v lone (length indent) j)
+    go false g j = h indent n blank e g (lone-is v lone (length indent) j)
 
 -- A byte that ends no line.
 module _ (f g : List ℕ → Bool) (v : Verdict) (b : ℕ) (l : List ℕ) (e : endsLine b ≡ false) where
@@ -116,7 +190,7 @@ module _ (f g : List ℕ → Bool) (v : Verdict) (b : ℕ) (l : List ℕ) (e : e
   tells-cons : ((t : List ℕ) → g t ≡ true → f (b ∷ t) ≡ true) → Tells g v l → Tells f v (b ∷ l)
   tells-cons h t indent n blank i =
       let w = line-behind b l e n i in
-      subst⁻¹ (λ (k : ℕ). judgedOf v (isFurther (furtherOf indent (drop k (b ∷ l)))) (length indent + 3) ≡ true → f (joinedOf indent k (b ∷ l)) ≡ true) (w .2)
+      subst⁻¹ (λ (k : ℕ). judgedOf v (isFurther (furtherOf indent (drop k (b ∷ l)))) (length indent) ≡ true → f (joinedOf indent k (b ∷ l)) ≡ true) (w .2)
       (λ j. h (joinedOf indent (w .0) l) (t indent (w .0) blank (w .1) j))
 
   -- the text has it in front
@@ -186,9 +260,9 @@ module _ (stop : ℕ) (ok : ℕ → Bool) (at : List ℕ → Bool) (wrong end : 
 
   -- A backslash at the front.
   module _ (near far : Verdict) (b : ℕ) (e : eqb b 0x5C ≡ true) (plain : endsLine b ≡ false) (space : ok 0x20 ≡ true) (other : stop ≡ 0x20 → ⊥) where
-    escape-last : (n : ℕ) → 1 ≤ n → Tells (run stop ok at wrong end) (sureOf wrong n) (b ∷ [])
-    escape-last n h =
-        tells-sure (run stop ok at wrong end) wrong n (b ∷ []) h
+    escape-last : Tells (run stop ok at wrong end) (sureOf wrong) (b ∷ [])
+    escape-last =
+        tells-sure (run stop ok at wrong end) wrong (b ∷ [])
         (λ indent m i.
         let w = line-behind b [] plain m i in
         let z : w .0 ≡ 0 = omega (arith, not-line-ending-le [] (w .0) (w .1)) in
@@ -203,19 +277,19 @@ module _ (stop : ℕ) (ok : ℕ → Bool) (at : List ℕ → Bool) (wrong end : 
         let z : w .0 ≡ 0 = line-stops c l (w .0) f (w .1) in
         let y : notLineEndingOf (c ∷ l) ≡ Taken 0 = w .1 ∙ ap Taken z in
         subst⁻¹
-        (λ (k : ℕ). judgedOf (loneOf near wrong) (isFurther (furtherOf indent (drop k (b ∷ c ∷ l)))) (length indent + 3) ≡ true → run stop ok at wrong end (joinedOf indent k (b ∷ c ∷ l)) ≡ true)
+        (λ (k : ℕ). judgedOf (loneOf near wrong) (isFurther (furtherOf indent (drop k (b ∷ c ∷ l)))) (length indent) ≡ true → run stop ok at wrong end (joinedOf indent k (b ∷ c ∷ l)) ≡ true)
         (w .2 ∙ ap suc z)
         (go (furtherOf indent (c ∷ l)) refl (t indent 0 blank y))
       where
         go :
             (x : Line) → furtherOf indent (c ∷ l) ≡ x
-            → (judgedOf near (isFurther (furtherOf indent (c ∷ l))) (length indent + 3) ≡ true → run stop ok at wrong end (joinedOf indent 0 (c ∷ l)) ≡ true)
-            → judgedOf (loneOf near wrong) (isFurther (furtherOf indent (c ∷ l))) (length indent + 3) ≡ true
+            → (judgedOf near (isFurther (furtherOf indent (c ∷ l))) (length indent) ≡ true → run stop ok at wrong end (joinedOf indent 0 (c ∷ l)) ≡ true)
+            → judgedOf (loneOf near wrong) (isFurther (furtherOf indent (c ∷ l))) (length indent) ≡ true
             → run stop ok at wrong end (b ∷ joinedOf indent 0 (c ∷ l)) ≡ true
         go (Further a m) g k j =
             let u = joinedOf indent m (drop a (c ∷ l)) in
             let further : isFurther (furtherOf indent (c ∷ l)) ≡ true = ap isFurther g in
-            let told = k (ap (λ (x : Bool). judgedOf near x (length indent + 3)) further ∙ sym (ap (λ (x : Bool). judgedOf (loneOf near wrong) x (length indent + 3)) further) ∙ j) in
+            let told = k (ap (λ (x : Bool). judgedOf near x (length indent)) further ∙ judged-lone near wrong (length indent) (sym (ap (λ (x : Bool). judgedOf (loneOf near wrong) x (length indent)) further) ∙ j)) in
             ap (λ (q : List ℕ). run stop ok at wrong end (b ∷ q)) (text-further indent (c ∷ l) a m g)
             ∙ run-pair b 0x20 u e space
             ∙ sym (run-plain 0x20 u refl (ne-eqb _ _ (λ r. other (sym r))))
@@ -224,53 +298,51 @@ module _ (stop : ℕ) (ok : ℕ → Bool) (at : List ℕ → Bool) (wrong end : 
         go End g k j =
             ap (λ (q : List ℕ). run stop ok at wrong end (b ∷ q)) (text-end indent (c ∷ l) g)
             ∙ run-alone b e
-            ∙ sym (bit-lone wrong)
-            ∙ sym (ap (λ (x : Line). judgedOf (loneOf near wrong) (isFurther x) (length indent + 3)) g) ∙ j
+            ∙ lone-is near wrong (length indent) (sym (ap (λ (x : Line). judgedOf (loneOf near wrong) (isFurther x) (length indent)) g) ∙ j)
 
     escape-pair : (c : ℕ) (l : List ℕ) → endsLine c ≡ false → ok c ≡ true → Tells (run stop ok at wrong end) far l → Tells (run stop ok at wrong end) far (b ∷ c ∷ l)
     escape-pair c l f g t =
         tells-cons (run stop ok at wrong end) (λ u. run stop ok at wrong end (b ∷ u)) far b (c ∷ l) plain (λ u k. k)
         (tells-cons (λ u. run stop ok at wrong end (b ∷ u)) (run stop ok at wrong end) far c l f (λ u k. run-pair b c u e g ∙ k) t)
 
-    escape-wrong : (n c : ℕ) (l : List ℕ) → length (b ∷ c ∷ l) ≤ n → endsLine c ≡ false → ok c ≡ false → Tells (run stop ok at wrong end) (sureOf wrong n) (b ∷ c ∷ l)
-    escape-wrong n c l h f g =
-        tells-sure (run stop ok at wrong end) wrong n (b ∷ c ∷ l) h
+    escape-wrong : (c : ℕ) (l : List ℕ) → endsLine c ≡ false → ok c ≡ false → Tells (run stop ok at wrong end) (sureOf wrong) (b ∷ c ∷ l)
+    escape-wrong c l f g =
+        tells-sure (run stop ok at wrong end) wrong (b ∷ c ∷ l)
         (λ indent m i.
         let w = line-behind b (c ∷ l) plain m i in
         let y = line-behind c l f (w .0) (w .1) in
         subst⁻¹ (λ (k : ℕ). run stop ok at wrong end (joinedOf indent k (b ∷ c ∷ l)) ≡ wrong) (w .2 ∙ ap suc (y .2))
         (run-wrong b c (joinedOf indent (y .0) l) e g))
 
-    escape-at : (n : ℕ) (l : List ℕ) → length (b ∷ l) ≤ n → Tells (run stop ok at wrong end) near l → Tells (run stop ok at wrong end) far (drop 1 l) → Tells (run stop ok at wrong end) (escapeOf n ok wrong near far (b ∷ l)) (b ∷ l)
-    escape-at n [] h t u = escape-last n (omega (arith, h))
-    escape-at n (c ∷ l) h t u =
+    escape-at : (l : List ℕ) → Tells (run stop ok at wrong end) near l → Tells (run stop ok at wrong end) far (drop 1 l) → Tells (run stop ok at wrong end) (escapeOf ok wrong near far (b ∷ l)) (b ∷ l)
+    escape-at [] t u = escape-last
+    escape-at (c ∷ l) t u =
         by-test (λ v. Tells (run stop ok at wrong end) v (b ∷ c ∷ l)) (endsLine c) _ _
         (λ f. escape-line c l f t)
         (λ f. by-test (λ v. Tells (run stop ok at wrong end) v (b ∷ c ∷ l)) (ok c) _ _
         (λ g. escape-pair c l f g u)
-        (λ g. escape-wrong n c l h f g))
+        (λ g. escape-wrong c l f g))
 
   pub tells-escape :
       (near far : Verdict) (s : List ℕ) (i : ℕ) → i < length s → getD s i 0 ≡ 0x5C → ok 0x20 ≡ true → (stop ≡ 0x20 → ⊥)
       → Tells (run stop ok at wrong end) near (drop (i + 1) s) → Tells (run stop ok at wrong end) far (drop (i + 2) s)
-      → Tells (run stop ok at wrong end) (escapeOf (length s) ok wrong near far (drop i s)) (drop i s)
+      → Tells (run stop ok at wrong end) (escapeOf ok wrong near far (drop i s)) (drop i s)
   tells-escape near far s i h e space other t u =
       let z : i + 1 + 1 ≡ i + 2 = omega arith in
       let plain : endsLine (getD s i 0) ≡ false = ap endsLine e in
-      subst⁻¹ (λ (l : List ℕ). Tells (run stop ok at wrong end) (escapeOf (length s) ok wrong near far l) l) (drop-next s i h)
-      (escape-at near far (getD s i 0) (eq-eqb _ _ e) plain space other (length s) (drop (i + 1) s)
-      (omega (arith, length-drop (i + 1) s))
+      subst⁻¹ (λ (l : List ℕ). Tells (run stop ok at wrong end) (escapeOf ok wrong near far l) l) (drop-next s i h)
+      (escape-at near far (getD s i 0) (eq-eqb _ _ e) plain space other (drop (i + 1) s)
       t
       (subst⁻¹ (Tells (run stop ok at wrong end) far) (drop-drop 1 (i + 1) s ∙ ap (λ (k : ℕ). drop k s) z) u))
 
   -- at the end of the text
-  pub tells-last : (n : ℕ) (s : List ℕ) → notLineEndingOf s ≡ Taken 0 → ((indent : List ℕ) → Blank indent → furtherOf indent s ≡ End) → Tells (run stop ok at wrong end) (loneOf (everything n) end) s
-  tells-last n s h g indent m blank e =
+  pub tells-last : (s : List ℕ) → notLineEndingOf s ≡ Taken 0 → ((indent : List ℕ) → Blank indent → furtherOf indent s ≡ End) → Tells (run stop ok at wrong end) (loneOf everything end) s
+  tells-last s h g indent m blank e =
       let z : m ≡ 0 = taken-is m 0 (sym e ∙ h) in
-      subst⁻¹ (λ (k : ℕ). judgedOf (loneOf (everything n) end) (isFurther (furtherOf indent (drop k s))) (length indent + 3) ≡ true → run stop ok at wrong end (joinedOf indent k s) ≡ true) z
+      subst⁻¹ (λ (k : ℕ). judgedOf (loneOf everything end) (isFurther (furtherOf indent (drop k s))) (length indent) ≡ true → run stop ok at wrong end (joinedOf indent k s) ≡ true) z
       (λ j.
-      ap (run stop ok at wrong end) (text-end indent s (g indent blank)) ∙ run-none ∙ sym (bit-lone end)
-      ∙ sym (ap (λ (x : Line). judgedOf (loneOf (everything n) end) (isFurther x) (length indent + 3)) (g indent blank)) ∙ j)
+      ap (run stop ok at wrong end) (text-end indent s (g indent blank)) ∙ run-none
+      ∙ lone-is everything end (length indent) (sym (ap (λ (x : Line). judgedOf (loneOf everything end) (isFurther x) (length indent)) (g indent blank)) ∙ j))
 
 -- Blanks.
 
@@ -283,7 +355,7 @@ space-cases P b h space tab =
     at n w e = subst⁻¹ P (eqb-true b n e) w
 
 -- they end no line, and are no backslash
-space-plain : (b : ℕ) → isSpace b ≡ true → (endsLine b ≡ false) × (eqb b 0x5C ≡ false)
+pub space-plain : (b : ℕ) → isSpace b ≡ true → (endsLine b ≡ false) × (eqb b 0x5C ≡ false)
 space-plain b e = space-cases (λ c. (endsLine c ≡ false) × (eqb c 0x5C ≡ false)) b e (refl, refl) (refl, refl)
 
 pub blank-next : (c : ℕ) (q : List ℕ) → Blank (c ∷ q) → Blank q
@@ -301,7 +373,7 @@ blank-three (c ∷ indent) f (suc i) h = blank-three indent (blank-next c indent
 
 -- What a text begins with.
 
-starts-next : (c b : ℕ) (q s : List ℕ) → startsWith (c ∷ q) (b ∷ s) ≡ true → (b ≡ c) × (startsWith q s ≡ true)
+pub starts-next : (c b : ℕ) (q s : List ℕ) → startsWith (c ∷ q) (b ∷ s) ≡ true → (b ≡ c) × (startsWith q s ≡ true)
 unfolding startsWith
 starts-next c b q s e = go (eqb b c) refl e
   where
@@ -357,6 +429,14 @@ shared-starts q s t k shared h e =
     let w = shared .0 i (omega (arith, l, h)) in
     (w .1, w .2))
 
+-- an indent with three spaces before both
+module _ (indent s t : List ℕ) (k : ℕ) where
+  pub shared-fewer : Blank indent → Shared k s t → startsWith (indent ++ three) s ≡ true → startsWith (indent ++ three) t ≡ true → length indent + 3 ≤ k
+  shared-fewer blank shared e f = omega (arith, length-append indent three, shared-both (indent ++ three) s t k (blank-three indent blank) shared e f)
+
+  pub shared-more : Shared k s t → length indent + 3 ≤ k → startsWith (indent ++ three) s ≡ true → startsWith (indent ++ three) t ≡ true
+  shared-more shared h e = shared-starts (indent ++ three) s t k shared (omega (arith, length-append indent three, h)) e
+
 -- A line that begins with blanks, by what stands behind them.
 blank-line : (q s : List ℕ) (n : ℕ) → Blank q → startsWith q s ≡ true → notLineEndingOf s ≡ Taken n → (k : ℕ) × (notLineEndingOf (drop (length q) s) ≡ Taken k)
 blank-line [] s n blank e f = (n, f)
@@ -373,9 +453,23 @@ blank-refused (c ∷ q) (b ∷ s) blank e f =
     let w = starts-next c b q s e in
     blank-refused q s (blank-next c q blank) (w .1) (line-behind-refused b s (space-plain b (ap isSpace (w .0) ∙ blank 0 (omega arith)) .0) f)
 
+-- with them it is the text behind them
+pub blank-joined :
+    (indent q s : List ℕ) (n k : ℕ) → Blank q → startsWith q s ≡ true → notLineEndingOf s ≡ Taken n → notLineEndingOf (drop (length q) s) ≡ Taken k
+    → joinedOf indent n s ≡ q ++ joinedOf indent k (drop (length q) s)
+blank-joined indent [] s n k blank e f g = ap (λ (i : ℕ). joinedOf indent i s) (taken-is n k (sym f ∙ g))
+blank-joined indent (c ∷ q) [] n k blank e f g = absurd (false≢true (sym (starts-never c q) ∙ e))
+blank-joined indent (c ∷ q) (b ∷ s) n k blank e f g =
+    let w = starts-next c b q s e in
+    let is : isSpace b ≡ true = ap isSpace (w .0) ∙ blank 0 (omega arith) in
+    let y = line-behind b s (space-plain b is .0) n f in
+    ap (λ (i : ℕ). joinedOf indent i (b ∷ s)) (y .2)
+    ∙ ap (λ (i : ℕ). i ∷ joinedOf indent (y .0) s) (w .0)
+    ∙ ap (λ (l : List ℕ). c ∷ l) (blank-joined indent q s (y .0) k (blank-next c q blank) (w .1) (y .1) g)
+
 -- At LF, by the next line.
 module _ (indent l : List ℕ) (blank : Blank indent) where
-  lf-taken : (m : ℕ) → notLineEndingOf l ≡ Taken m → startsWith (indent ++ three) l ≡ true → (k : ℕ) × (notLineEndingOf (drop (length (indent ++ three)) l) ≡ Taken k) × (furtherOf indent (10 ∷ l) ≡ Further (suc (length (indent ++ three))) k)
+  pub lf-taken : (m : ℕ) → notLineEndingOf l ≡ Taken m → startsWith (indent ++ three) l ≡ true → (k : ℕ) × (notLineEndingOf (drop (length (indent ++ three)) l) ≡ Taken k) × (furtherOf indent (10 ∷ l) ≡ Further (suc (length (indent ++ three))) k)
   lf-taken m e f =
       let w = blank-line (indent ++ three) l m (blank-three indent blank) f e in
       (w .0, w .1, further-lf-starts indent l f ∙ ap (lineAt (suc (length (indent ++ three)))) (w .1))
@@ -456,11 +550,11 @@ module _ (s : List ℕ) (i : ℕ) (h : i + 1 < length s) (e : getD s i 0 ≡ 13)
       both t indent n blank j =
           let l = drop (i + 2) s in
           subst⁻¹
-          (λ (k : ℕ). judgedOf v (isFurther (furtherOf indent (drop k (13 ∷ 10 ∷ l)))) (length indent + 3) ≡ true → g (joinedOf indent k (13 ∷ 10 ∷ l)) ≡ true)
+          (λ (k : ℕ). judgedOf v (isFurther (furtherOf indent (drop k (13 ∷ 10 ∷ l)))) (length indent) ≡ true → g (joinedOf indent k (13 ∷ 10 ∷ l)) ≡ true)
           (taken-is n 0 (sym j ∙ crlf-here l))
           (λ k.
           ap g (crlf-text indent l)
-          ∙ t indent 0 blank (line-here l) (ap (λ (x : Bool). judgedOf v x (length indent + 3)) (sym (crlf-further indent l)) ∙ k))
+          ∙ t indent 0 blank (line-here l) (ap (λ (x : Bool). judgedOf v x (length indent)) (sym (crlf-further indent l)) ∙ k))
 
   pub follows-cr : (next : ℕ) (w : List ℕ) → Follows next w (drop (i + 1) s) → Follows next w (drop i s)
   follows-cr next w t = subst⁻¹ (Follows next w) (crlf-first s i h e f) (both (subst (Follows next w) (crlf-next s i h e f) t))
@@ -472,38 +566,21 @@ module _ (s : List ℕ) (i : ℕ) (h : i + 1 < length s) (e : getD s i 0 ≡ 13)
 
 -- Over a line's end.
 
--- what the next line's verdict says where no further line follows it is not used
-over-lone : (v : Verdict) (lone : Bool) (k n : ℕ) → isLone (overOf v lone k n) ≡ lone
-over-lone v lone k n =
-    by-test (λ (o : Verdict). isLone o ≡ lone) (isLone v)
-    (record { lone = bitOf lone; low = v .low; high = minOf k (v .high) })
-    (record { lone = bitOf lone; low = minOf k (v .low); high = n })
-    (λ e. bit-lone lone)
-    (λ e. bit-lone lone)
-
 -- where the next line is a further one, its verdict is true: behind it stands one just if both have these blanks in common
 over-judged :
-    (v : Verdict) (lone : Bool) (k n m : ℕ) (y : Bool) → (y ≡ true → m ≤ k) → (m ≤ k → y ≡ true) → m ≤ n
-    → judgedOf (overOf v lone k n) true m ≡ true → judgedOf v y m ≡ true
-over-judged v lone k n m y f g h =
-    by-test (λ (o : Verdict). judgedOf o true m ≡ true → judgedOf v y m ≡ true) (isLone v) far near
-    (λ e j. sure e y f j)
-    (λ e j. ⊎-elim
-    (λ l.
-    let w = min-le m k (v .low) l in
-    ap (λ (x : Bool). judgedOf v x m) (g (w .0)) ∙ judged-low v m (w .1))
-    (λ l. absurd (omega (arith, l, h)))
-    (judged-cases near m j))
+    (v : Verdict) (lone : Bool) (shared k : ℕ) (y : Bool) → (y ≡ true → k + 3 ≤ shared) → (k + 3 ≤ shared → y ≡ true)
+    → judgedOf (overOf v lone shared) true k ≡ true → judgedOf v y k ≡ true
+over-judged v lone shared k y f g j =
+    by-test (λ (o : Verdict). judgedOf o true k ≡ true → judgedOf v y k ≡ true) (isLone v) (eitherOf v (beyondOf shared)) (bothOf v (upToOf shared))
+    (λ e i. sure e y f i)
+    (λ e i.
+    let w = judged-both v (upToOf shared) true k i in
+    ap (λ (x : Bool). judgedOf v x k) (g (judged-up-to shared k (w .1))) ∙ w .0)
+    (judged-lone _ lone k j)
   where
-    far : Verdict
-    far = record { lone = bitOf lone; low = v .low; high = minOf k (v .high) }
-
-    near : Verdict
-    near = record { lone = bitOf lone; low = minOf k (v .low); high = n }
-
-    sure : isLone v ≡ true → (x : Bool) → (x ≡ true → m ≤ k) → judgedOf far true m ≡ true → judgedOf v x m ≡ true
-    sure e true c j = ⊎-elim (λ l. judged-low v m l) (λ l. judged-high v m (min-lt m k (v .high) l (c refl))) (judged-cases far m j)
-    sure e false c j = e
+    sure : isLone v ≡ true → (x : Bool) → (x ≡ true → k + 3 ≤ shared) → judgedOf (eitherOf v (beyondOf shared)) true k ≡ true → judgedOf v x k ≡ true
+    sure e true c i = ⊎-elim (λ w. w) (λ w. absurd (judged-beyond shared k (c refl) w)) (judged-either v (beyondOf shared) true k i)
+    sure e false c i = e
 
 module _ (stop : ℕ) (ok : ℕ → Bool) (at : List ℕ → Bool) (wrong end : Bool) (space : stop ≡ 0x20 → ⊥) (tab : stop ≡ 9 → ⊥) where
   abbrev goes : List ℕ → Bool
@@ -514,60 +591,52 @@ module _ (stop : ℕ) (ok : ℕ → Bool) (at : List ℕ → Bool) (wrong end : 
   blank-other b e = space-cases (λ c. eqb c stop ≡ false) b e (ne-eqb _ _ (λ f. space (sym f))) (ne-eqb _ _ (λ f. tab (sym f)))
 
   -- from the line's start it goes as from behind them
+  run-blanks : (q t : List ℕ) → Blank q → goes (q ++ t) ≡ goes t
+  run-blanks [] t blank = refl
+  run-blanks (c ∷ q) t blank =
+      let is = blank 0 (omega arith) in
+      run-plain stop ok at wrong end c (q ++ t) (space-plain c is .1) (blank-other c is) ∙ run-blanks q t (blank-next c q blank)
+
   run-blank :
       (indent q s : List ℕ) (n k : ℕ) → Blank q → startsWith q s ≡ true → notLineEndingOf s ≡ Taken n → notLineEndingOf (drop (length q) s) ≡ Taken k
       → goes (joinedOf indent n s) ≡ goes (joinedOf indent k (drop (length q) s))
-  run-blank indent [] s n k blank e f g = ap (λ (i : ℕ). goes (joinedOf indent i s)) (taken-is n k (sym f ∙ g))
-  run-blank indent (c ∷ q) [] n k blank e f g = absurd (false≢true (sym (starts-never c q) ∙ e))
-  run-blank indent (c ∷ q) (b ∷ s) n k blank e f g =
-      let w = starts-next c b q s e in
-      let is : isSpace b ≡ true = ap isSpace (w .0) ∙ blank 0 (omega arith) in
-      let p = space-plain b is in
-      let y = line-behind b s (p .0) n f in
-      ap (λ (i : ℕ). goes (joinedOf indent i (b ∷ s))) (y .2)
-      ∙ run-plain stop ok at wrong end b (joinedOf indent (y .0) s) (p .1) (blank-other b is)
-      ∙ run-blank indent q s (y .0) k (blank-next c q blank) (w .1) (y .1) g
+  run-blank indent q s n k blank e f g = ap goes (blank-joined indent q s n k blank e f g) ∙ run-blanks q _ blank
 
   over-lf :
-      (v : Verdict) (l t : List ℕ) (k n m : ℕ) → notLineEndingOf l ≡ Taken m → length l ≤ n
+      (v : Verdict) (l t : List ℕ) (k m : ℕ) → notLineEndingOf l ≡ Taken m
       → ((indent : List ℕ) → Blank indent → isFurther (furtherOf indent (drop m l)) ≡ startsWith (indent ++ three) t) → Shared k l t → Tells goes v l
-      → Tells goes (overOf v end k n) (10 ∷ l)
-  over-lf v l t k n m line within follows shared told indent z blank here =
-      subst⁻¹ (λ (i : ℕ). judgedOf (overOf v end k n) (isFurther (furtherOf indent (drop i (10 ∷ l)))) (length indent + 3) ≡ true → goes (joinedOf indent i (10 ∷ l)) ≡ true)
+      → Tells goes (overOf v end k) (10 ∷ l)
+  over-lf v l t k m line follows shared told indent z blank here =
+      subst⁻¹ (λ (i : ℕ). judgedOf (overOf v end k) (isFurther (furtherOf indent (drop i (10 ∷ l)))) (length indent) ≡ true → goes (joinedOf indent i (10 ∷ l)) ≡ true)
       (taken-is z 0 (sym here ∙ line-here l))
       (go (startsWith (indent ++ three) l) refl)
     where
-      size : length (indent ++ three) ≡ length indent + 3
-      size = length-append indent three
-
-      next : startsWith (indent ++ three) l ≡ true → judgedOf (overOf v end k n) true (length indent + 3) ≡ true → goes (joinedOf indent m l) ≡ true
+      next : startsWith (indent ++ three) l ≡ true → judgedOf (overOf v end k) true (length indent) ≡ true → goes (joinedOf indent m l) ≡ true
       next e j =
           told indent m blank line
-          (ap (λ (x : Bool). judgedOf v x (length indent + 3)) (follows indent blank)
-          ∙ over-judged v end k n (length indent + 3) (startsWith (indent ++ three) t)
-          (λ f. omega (arith, size, shared-both (indent ++ three) l t k (blank-three indent blank) shared e f))
-          (λ f. shared-starts (indent ++ three) l t k shared (omega (arith, size, f)) e)
-          (omega (arith, size, within, starts-le (indent ++ three) l e))
+          (ap (λ (x : Bool). judgedOf v x (length indent)) (follows indent blank)
+          ∙ over-judged v end k (length indent) (startsWith (indent ++ three) t)
+          (λ f. shared-fewer indent l t k blank shared e f)
+          (λ f. shared-more indent l t k shared f e)
           j)
 
-      go : (x : Bool) → startsWith (indent ++ three) l ≡ x → judgedOf (overOf v end k n) (isFurther (furtherOf indent (10 ∷ l))) (length indent + 3) ≡ true → goes (joinedOf indent 0 (10 ∷ l)) ≡ true
+      go : (x : Bool) → startsWith (indent ++ three) l ≡ x → judgedOf (overOf v end k) (isFurther (furtherOf indent (10 ∷ l))) (length indent) ≡ true → goes (joinedOf indent 0 (10 ∷ l)) ≡ true
       go true e j =
           let w = lf-taken indent l blank m line e in
           let u = joinedOf indent (w .0) (drop (length (indent ++ three)) l) in
           ap goes (text-further indent (10 ∷ l) (suc (length (indent ++ three))) (w .0) (w .2))
           ∙ run-plain stop ok at wrong end 0x20 u refl (ne-eqb _ _ (λ r. space (sym r)))
           ∙ sym (run-blank indent (indent ++ three) l m (w .0) (blank-three indent blank) e line (w .1))
-          ∙ next e (sym (ap (λ (x : Line). judgedOf (overOf v end k n) (isFurther x) (length indent + 3)) (w .2)) ∙ j)
+          ∙ next e (sym (ap (λ (x : Line). judgedOf (overOf v end k) (isFurther x) (length indent)) (w .2)) ∙ j)
       go false e j =
           let f = further-lf-other indent l e in
-          ap goes (text-end indent (10 ∷ l) f) ∙ run-none stop ok at wrong end ∙ sym (over-lone v end k n)
-          ∙ sym (ap (λ (x : Line). judgedOf (overOf v end k n) (isFurther x) (length indent + 3)) f)
-          ∙ j
+          ap goes (text-end indent (10 ∷ l) f) ∙ run-none stop ok at wrong end
+          ∙ lone-is _ end (length indent) (sym (ap (λ (x : Line). judgedOf (overOf v end k) (isFurther x) (length indent)) f) ∙ j)
 
   pub tells-over :
       (v : Verdict) (s : List ℕ) (i next k m : ℕ) → i < length s → getD s i 0 ≡ 10 → notLineEndingOf (drop (i + 1) s) ≡ Taken m
       → Follows next s (drop (i + 1) s) → Shared k (drop (i + 1) s) (drop next s) → Tells (run stop ok at wrong end) v (drop (i + 1) s)
-      → Tells (run stop ok at wrong end) (overOf v end k (length s)) (drop i s)
+      → Tells (run stop ok at wrong end) (overOf v end k) (drop i s)
   tells-over v s i next k m h e line follows shared told =
-      subst⁻¹ (Tells (run stop ok at wrong end) (overOf v end k (length s))) (lf-first s i h e)
-      (over-lf v (drop (i + 1) s) (drop next s) k (length s) m line (omega (arith, length-drop (i + 1) s)) (λ indent blank. follows indent m blank line) shared told)
+      subst⁻¹ (Tells (run stop ok at wrong end) (overOf v end k)) (lf-first s i h e)
+      (over-lf v (drop (i + 1) s) (drop next s) k m line (λ indent blank. follows indent m blank line) shared told)

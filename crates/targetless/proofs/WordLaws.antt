@@ -5,9 +5,9 @@ use Prim.Native.Nat.{ℕ, _-_, _<_}
 use native.Mathlib.Omega.{arith}
 use mathlib.Core.Path.{_≡_, refl, sym, ap, subst⁻¹, _∙_}
 use mathlib.Core.List.{List, [], _∷_, _++_, append-nil}
-use mathlib.Core.Bool.{false, _&&_}
+use mathlib.Core.Bool.{Bool, true, false, _&&_}
 use mathlib.Core.Logic.{⊎-elim}
-use lib.Dec.{eqb, ltb}
+use lib.Dec.{eqb, leb, ltb}
 use lib.ListN.{length, getD, drop, take, take-append-drop, List·getD-append}
 use borrow.Author.Tests.{eqb-true}
 use Rattle.rst_bytes.specs.Line.{lineEndingOf, notLineEndingOf}
@@ -35,18 +35,25 @@ word-before : (x y : List ℕ) → Ended y → wordOf (x ++ y) ≡ wordOf x
 word-before x [] w = ap wordOf (append-nil x)
 word-before x (c ∷ y) w = word-ended c (w .0) (w .1) x y
 
+-- by the word's length
+abbrev pub labelled : List ℕ → ℕ → Bool
+labelled s m = ltb 1 m && (eqb (getD s (m - 1) 0) 0x5F && leb m (elim (eqb (getD s (m - 2) 0) 0x5F) [ true ↦ 1001 | false ↦ 1000 ]))
+
 -- so a word label before it is the same without it
 labelled-before : (x y : List ℕ) → Ended y → wordLabelled (x ++ y) ≡ wordLabelled x
 unfolding wordLabelled
 labelled-before x y w =
     ⊎-elim
     (λ h.
-    ap (λ (m : ℕ). ltb 1 m && eqb (getD (x ++ y) (m - 1) 0) 0x5F) (word-before x y w)
-    ∙ ap (λ (c : ℕ). ltb 1 (wordOf x) && eqb c 0x5F) (List·getD-append x y 0 (wordOf x - 1) (omega (arith, word-within x))))
+    ap (labelled (x ++ y)) (word-before x y w)
+    ∙ ap (λ (c : ℕ). ltb 1 (wordOf x) && (eqb c 0x5F && leb (wordOf x) (elim (eqb (getD (x ++ y) (wordOf x - 2) 0) 0x5F) [ true ↦ 1001 | false ↦ 1000 ])))
+    (List·getD-append x y 0 (wordOf x - 1) (omega (arith, word-within x)))
+    ∙ ap (λ (c : ℕ). ltb 1 (wordOf x) && (eqb (getD x (wordOf x - 1) 0) 0x5F && leb (wordOf x) (elim (eqb c 0x5F) [ true ↦ 1001 | false ↦ 1000 ])))
+    (List·getD-append x y 0 (wordOf x - 2) (omega (arith, word-within x))))
     (λ h.
     let z : wordOf x ≡ 0 = omega arith in
-    ap (λ (m : ℕ). ltb 1 m && eqb (getD (x ++ y) (m - 1) 0) 0x5F) (word-before x y w ∙ z)
-    ∙ sym (ap (λ (m : ℕ). ltb 1 m && eqb (getD x (m - 1) 0) 0x5F) z))
+    ap (labelled (x ++ y)) (word-before x y w ∙ z)
+    ∙ sym (ap (labelled x) z))
     (lt-or-le 0 (wordOf x))
 
 -- a line's end

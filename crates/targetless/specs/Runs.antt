@@ -1,21 +1,26 @@
 -- What the contracts of private functions speak of: the runs that tell whether a block's text is a target.
 -- Assumes nothing.
-use Prim.Native.Nat.{ℕ, _-_}
+use Prim.Native.Nat.{ℕ, _+_, _-_, _*_, _≤_}
 use mathlib.Core.List.{List, [], _∷_}
 use mathlib.Core.Bool.{Bool, true, false, _&&_, _||_, not}
-use lib.Dec.{eqb, ltb}
-use lib.ListN.{getD, drop, take}
-use Rattle.rst_bytes.specs.Escaped.{isEscapable}
-use Rattle.rst_bytes.specs.Line.{space0Of}
+use lib.Dec.{eqb, leb, ltb}
+use lib.ListN.{length, getD, drop, take}
+use Rattle.rst_bytes.specs.Escaped.{isEscapable, taking}
+use Rattle.rst_bytes.specs.Line.{notLineEndingOf}
 use Rattle.rst_bytes.specs.Tag.{startsWith}
 use Rattle.rst_bytes.specs.Word.{wordOf}
+use Rattle.rst_bytes.specs.declared.Part.{Part}
+use Rattle.rst_bytes.specs.declared.Part.the-variants.{Taken, Refused}
 use mathlib.Core.Path.{_≡_}
 use Rattle.restructured_text.specs.Definition.{rawOf}
+use Rattle.restructured_text.specs.Delimited.{backtickedOf}
+use Rattle.restructured_text.specs.Label.{labelLenMax}
 use Rattle.restructured_text.specs.Strings.{none}
 use Rattle.restructured_text.specs.Target.{namedOf}
 use Rattle.restructured_text.specs.Transform.{Given, whole, refused, isDestinationEscapable, keptOf}
+use Rattle.targetless.specs.declared.Size.{Size}
 use Rattle.targetless.specs.declared.State.{State}
-use Rattle.targetless.specs.Verdict.{Tells, run}
+use Rattle.targetless.specs.Verdict.{joinedOf, Blank, everything, nothing, loneOf, Tells, run}
 
 unfoldable pub isRefused : Given → Bool
 isRefused (whole l) = false
@@ -34,13 +39,11 @@ abbrev pub escapableOf : Bool → ℕ → Bool
 escapableOf true b = isEscapable b
 escapableOf false b = isDestinationEscapable b
 
--- a word that is a label stands at the front
+-- a word that is a label of at most 999 bytes stands at the front, and one `_` behind it, or two
 unfoldable pub wordLabelled : List ℕ → Bool
-wordLabelled s = ltb 1 (wordOf s) && eqb (getD s (wordOf s - 1) 0) 0x5F
-
--- behind the blanks at the front a backtick stands, or a word that is a label
-unfoldable pub labelBegins : List ℕ → Bool
-labelBegins s = startsWith (0x60 ∷ []) (drop (space0Of s) s) || wordLabelled (drop (space0Of s) s)
+wordLabelled s =
+    ltb 1 (wordOf s)
+    && (eqb (getD s (wordOf s - 1) 0) 0x5F && leb (wordOf s) (elim (eqb (getD s (wordOf s - 2) 0) 0x5F) [ true ↦ 1001 | false ↦ 1000 ]))
 
 -- a destination is refused: a wrong escape stands in it; no stop
 abbrev pub destinationRun : List ℕ → Bool
@@ -53,6 +56,27 @@ labelStop t = not (startsWith (0x60 ∷ 0x5F ∷ []) t)
 -- behind a backtick no label is closed, or it is refused
 abbrev pub labelRun : List ℕ → Bool
 labelRun s = run 0x60 (escapableOf false) labelStop true true s
+
+-- a label of these bytes is too long, or there is none
+abbrev pub isLong : Part → Bool
+isLong (Taken n) = ltb labelLenMax n
+isLong Refused = true
+
+-- behind a backtick no label stands that is taken whole: none is closed, or it is refused, or it is too long
+abbrev pub noLabel : List ℕ → Bool
+noLabel s = labelRun s || isLong (backtickedOf false (0x60 ∷ s))
+
+-- a label that goes on with this text and that a backtick closes has so many bytes up to it, for an indent that has m bytes with three spaces
+abbrev pub SizeOf : Size → ℕ → List ℕ → Type 0
+SizeOf z m text =
+    (k : ℕ) → taking 0x60 0x60 false 0 text ≡ Taken k → startsWith (0x60 ∷ []) (drop k text) ≡ true → k + z .ends * m ≡ z .kept
+
+-- the same of each text that begins with s
+abbrev pub Sized : Size → List ℕ → Type 0
+Sized z s =
+    (z .kept ≤ length s)
+    × (z .ends ≤ length s)
+    × ((indent : List ℕ) (n : ℕ) → Blank indent → notLineEndingOf s ≡ Taken n → SizeOf z (length indent + 3) (joinedOf indent n s))
 
 -- this colon ends no name, or the target behind it is refused
 abbrev pub plainStop : List ℕ → Bool
@@ -91,3 +115,53 @@ StateTells x s =
     × Tells quotedRun (x .quoted) s
     × Tells closedRun (x .closed) s
     × Tells isDead (x .target) s
+    × Sized (x .size) s
+
+-- at a backslash that refuses what it stands in
+abbrev pub wrongOf : State
+wrongOf =
+    record {
+      destination = everything;
+      label = everything;
+      plain = everything;
+      quoted = everything;
+      closed = nothing;
+      target = everything;
+      size = record { kept = 0; ends = 0 };
+    }
+
+-- at a backslash before a line's end
+abbrev pub endedOf : State → Size → State
+endedOf near size =
+    record {
+      destination = loneOf (near .destination) true;
+      label = loneOf (near .label) true;
+      plain = loneOf (near .plain) true;
+      quoted = loneOf (near .quoted) true;
+      closed = loneOf (near .closed) false;
+      target = loneOf (near .destination) true;
+      size = size;
+    }
+
+-- at a backslash before a byte that it may stand before in a name, and in a destination too
+abbrev pub pairedOf : State → Bool → Size → State
+pairedOf far true size =
+    record {
+      destination = far .destination;
+      label = far .label;
+      plain = far .plain;
+      quoted = far .quoted;
+      closed = far .closed;
+      target = far .destination;
+      size = size;
+    }
+pairedOf far false size =
+    record {
+      destination = everything;
+      label = everything;
+      plain = far .plain;
+      quoted = far .quoted;
+      closed = far .closed;
+      target = everything;
+      size = size;
+    }

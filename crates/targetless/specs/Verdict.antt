@@ -1,9 +1,10 @@
 -- What the contracts of private functions speak of: verdicts on the texts that stand from a place on, for all indents that their block may have.
 -- Assumes nothing.
-use Prim.Native.Nat.{ℕ, _+_, _<_}
+use Prim.Native.Nat.{ℕ, _+_, _-_, _/_, _^_, _<_}
 use mathlib.Core.Path.{_≡_}
 use mathlib.Core.List.{List, [], _∷_, _++_}
 use mathlib.Core.Bool.{Bool, true, false, _||_}
+use lib.Bits.{bitAnd, bitOr}
 use lib.Dec.{eqb, leb, ltb}
 use lib.ListN.{length, getD, drop, take}
 use Rattle.rst_bytes.specs.Line.{isSpace, notLineEndingOf}
@@ -27,59 +28,78 @@ isFurther End = false
 abbrev pub Blank : List ℕ → Type 0
 Blank indent = (i : ℕ) → i < length indent → isSpace (getD indent i 0) ≡ true
 
-abbrev pub minOf : ℕ → ℕ → ℕ
-minOf a b = elim (ltb a b) [ true ↦ a | false ↦ b ]
+-- all bits of a number
+abbrev pub ones : ℕ
+ones = 0xffff_ffff_ffff_ffff
 
-abbrev pub maxOf : ℕ → ℕ → ℕ
-maxOf a b = elim (ltb a b) [ true ↦ b | false ↦ a ]
-
--- 1 if so
-abbrev pub bitOf : Bool → ℕ
-bitOf true = 1
-bitOf false = 0
+-- bit k is 1
+unfoldable pub bitAt : ℕ → ℕ → Bool
+bitAt x k = eqb (bitAnd (x / 2 ^ k) 1) 1
 
 -- it is so where no further line follows
 abbrev pub isLone : Verdict → Bool
-isLone v = ltb 0 (v .lone)
+isLone v = eqb (bitAnd (v .short) 1) 1
 
--- it is so for each indent, in texts of at most n bytes
-abbrev pub everything : ℕ → Verdict
-everything n = record { lone = 1; low = n; high = 0 }
+-- what a verdict says for an indent of k bytes, by whether a further line follows
+abbrev pub judgedOf : Verdict → Bool → ℕ → Bool
+judgedOf v true k =
+    elim (ltb k 63) [
+      | true ↦ bitAt (v .short) (k + 1)
+      | false ↦ elim (ltb k 127) [ true ↦ bitAt (v .long) (k - 63) | false ↦ false ]
+    ]
+judgedOf v false k = isLone v
+
+-- it is so for each indent
+abbrev pub everything : Verdict
+everything = record { short = ones; long = ones }
 
 -- nothing is told
-abbrev pub nothing : ℕ → Verdict
-nothing n = record { lone = 0; low = 0; high = n }
+abbrev pub nothing : Verdict
+nothing = record { short = 0; long = 0 }
 
-abbrev pub sureOf : Bool → ℕ → Verdict
-sureOf true n = everything n
-sureOf false n = nothing n
+abbrev pub sureOf : Bool → Verdict
+sureOf true = everything
+sureOf false = nothing
 
 -- what both say
 abbrev pub bothOf : Verdict → Verdict → Verdict
-bothOf a b = record { lone = minOf (a .lone) (b .lone); low = minOf (a .low) (b .low); high = maxOf (a .high) (b .high) }
+bothOf a b = record { short = bitAnd (a .short) (b .short); long = bitAnd (a .long) (b .long) }
+
+-- what one of them says
+abbrev pub eitherOf : Verdict → Verdict → Verdict
+eitherOf a b = record { short = bitOr (a .short) (b .short); long = bitOr (a .long) (b .long) }
+
+-- so many less, or 0
+abbrev pub lessOf : ℕ → ℕ → ℕ
+lessOf a b = elim (ltb a b) [ true ↦ 0 | false ↦ a - b ]
+
+-- the lowest n bits of 64
+unfoldable pub onesOf : ℕ → ℕ
+onesOf n = elim (leb 64 n) [ true ↦ ones | false ↦ 2 ^ n - 1 ]
+
+-- it is so for the indents that have at most m bytes with three spaces
+abbrev pub upToOf : ℕ → Verdict
+upToOf m = record { short = onesOf (lessOf m 1); long = onesOf (lessOf m 65) }
+
+-- for the others
+abbrev pub beyondOf : ℕ → Verdict
+beyondOf m = record { short = ones - onesOf (lessOf m 1); long = ones - onesOf (lessOf m 65) }
 
 -- the same where a further line follows
 abbrev pub loneOf : Verdict → Bool → Verdict
-loneOf v lone = record { lone = bitOf lone; low = v .low; high = v .high }
+loneOf v true = record { short = bitOr (v .short) 1; long = v .long }
+loneOf v false = record { short = bitAnd (v .short) 0xffff_ffff_ffff_fffe; long = v .long }
 
 -- at a line's end, by what is told of the next line, which has the first blanks in common with the line behind it
-abbrev pub overOf : Verdict → Bool → ℕ → ℕ → Verdict
-overOf next lone shared n =
-    elim (isLone next) [
-      | true ↦ record { lone = bitOf lone; low = next .low; high = minOf shared (next .high) }
-      | false ↦ record { lone = bitOf lone; low = minOf shared (next .low); high = n }
-    ]
-
--- what a verdict says for an indent that has m bytes with three spaces
-abbrev pub judgedOf : Verdict → Bool → ℕ → Bool
-judgedOf v true m = leb m (v .low) || ltb (v .high) m
-judgedOf v false m = isLone v
+abbrev pub overOf : Verdict → Bool → ℕ → Verdict
+overOf next lone shared =
+    loneOf (elim (isLone next) [ true ↦ eitherOf next (beyondOf shared) | false ↦ bothOf next (upToOf shared) ]) lone
 
 -- the verdict is true of the test of each text that begins with s
 abbrev pub Tells : (List ℕ → Bool) → Verdict → List ℕ → Type 0
 Tells f v s =
     (indent : List ℕ) (n : ℕ) → Blank indent → notLineEndingOf s ≡ Taken n
-    → judgedOf v (isFurther (furtherOf indent (drop n s))) (length indent + 3) ≡ true → f (joinedOf indent n s) ≡ true
+    → judgedOf v (isFurther (furtherOf indent (drop n s))) (length indent) ≡ true → f (joinedOf indent n s) ≡ true
 
 -- a run over a text, up to a stop or a wrong escape
 unfoldable pub run : ℕ → (ℕ → Bool) → (List ℕ → Bool) → Bool → Bool → List ℕ → Bool
@@ -97,11 +117,11 @@ abbrev pub endsLine : ℕ → Bool
 endsLine b = eqb b 10 || eqb b 13
 
 -- the verdict on a run that begins with a backslash: near is told of what stands one byte behind it, far two bytes
-abbrev pub escapeOf : ℕ → (ℕ → Bool) → Bool → Verdict → Verdict → List ℕ → Verdict
-escapeOf n ok wrong near far [] = near
-escapeOf n ok wrong near far (b ∷ []) = sureOf wrong n
-escapeOf n ok wrong near far (b ∷ c ∷ rest) =
-    elim (endsLine c) [ true ↦ loneOf near wrong | false ↦ elim (ok c) [ true ↦ far | false ↦ sureOf wrong n ] ]
+abbrev pub escapeOf : (ℕ → Bool) → Bool → Verdict → Verdict → List ℕ → Verdict
+escapeOf ok wrong near far [] = near
+escapeOf ok wrong near far (b ∷ []) = sureOf wrong
+escapeOf ok wrong near far (b ∷ c ∷ rest) =
+    elim (endsLine c) [ true ↦ loneOf near wrong | false ↦ elim (ok c) [ true ↦ far | false ↦ sureOf wrong ] ]
 
 -- a further line follows just if the next line, at place next of s, begins with the indent and three spaces
 abbrev pub Follows : ℕ → List ℕ → List ℕ → Type 0

@@ -55,7 +55,7 @@ fn is_unnamed(s: &[u8], e: usize, indent: &[u8], w: Walk, on: bool) -> bool
     requires on { ⌜ ((n : ℕ) → notLineEndingOf (drop e (now s)) ≡ Taken n → on ≡ isFurther (furtherOf (now indent) (drop n (drop e (now s))))) ⌝ }
     ensures { λ r. ⌜ (r ≡ true → (n : ℕ) → notLineEndingOf (drop e (now (s .entry))) ≡ Taken n → Unnamed (joinedOf (now (indent .entry)) n (drop e (now (s .entry))))) ⌝ }
 {
-    let m = indent.len() + 3;
+    let k = indent.len();
     let v = &s[e..];
     if tag(v, b"_:") {
         return true;
@@ -65,16 +65,16 @@ fn is_unnamed(s: &[u8], e: usize, indent: &[u8], w: Walk, on: bool) -> bool
     if tag(v, b"_`") {
         let far = w.far;
         let quoted = far.quoted;
-        if judged(quoted, on, m) {
-            if judged(plain, on, m) {
+        if judged(quoted, on, k) {
+            if judged(plain, on, k) {
                 return true;
             }
             let closed = far.closed;
-            return judged(closed, on, m);
+            return judged(closed, on, k);
         }
         return false;
     }
-    judged(plain, on, m)
+    judged(plain, on, k)
 }
 
 // Whether no target starts at place k: blanks up to three bytes before place e, and then `.. ` and `_`, or `__ `. What is kept at e is `here`, and at
@@ -96,7 +96,7 @@ fn is_free(s: &[u8], k: usize, e: usize, behind: Walk, here: Walk) -> bool
     if b == b'_' {
         let near = here.near;
         let target = near.target;
-        return judged(target, on, indent.len() + 3);
+        return judged(target, on, indent.len());
     }
     is_unnamed(s, e, indent, behind, on)
 }

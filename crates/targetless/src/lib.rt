@@ -16,16 +16,22 @@ ghost use lib.ListN.{length, replicate};
 ghost use Rattle.targetless.specs.Targetless.{Marks};
 
 // What is told of the texts that stand from a place on, for each indent that their block may have: where no further line follows the line,
-// it is so if `lone` is 1, a number since a bool would leave bytes in the struct that are slow to copy; where one does, if the indent and three
-// spaces have at most `low` bytes, or more than `high`.
+// it is so if bit 0 of `short` is 1; where one does, for an indent of k bytes if bit k + 1 of `short` is 1, or from 63 bytes on bit k - 63 of
+// `long`. Of 127 bytes and more nothing is told there.
 pub struct Verdict {
-    pub lone: usize,
-    pub low: usize,
-    pub high: usize,
+    pub short: usize,
+    pub long: usize,
+}
+
+// How many bytes a label has up to the backtick that closes it: `kept`, less the bytes of the indent and three spaces `ends` times.
+pub struct Size {
+    pub kept: usize,
+    pub ends: usize,
 }
 
 // The verdicts at a place: that a destination is refused; that behind a backtick no label is closed, or it is refused; that a plain name does
-// not end, or has a target that is refused; the same of a name behind a backtick; that this one is closed; that a target is refused.
+// not end, or has a target that is refused; the same of a name behind a backtick; that this one is closed; that a target is refused. And the size
+// of a label that goes on here.
 pub struct State {
     pub destination: Verdict,
     pub label: Verdict,
@@ -33,6 +39,7 @@ pub struct State {
     pub quoted: Verdict,
     pub closed: Verdict,
     pub target: Verdict,
+    pub size: Size,
 }
 
 // Zero in each byte.

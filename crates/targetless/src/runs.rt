@@ -1,28 +1,30 @@
 // What the runs find from a place of a line on, by what they find from the next place and from the one behind it on.
+use crate::Size;
 use crate::State;
 use crate::Verdict;
 use crate::verdicts::both;
+use crate::verdicts::either;
 use crate::verdicts::everything;
 use crate::verdicts::nothing;
-use crate::verdicts::sure;
+use crate::verdicts::up_to;
 use crate::verdicts::with_lone;
 use restructured_text::transform::is_destination_escapable;
-use rst_bytes::Part;
 use rst_bytes::escaped::is_escapable;
-use rst_bytes::line::line_ending;
-use rst_bytes::line::space0;
 use rst_bytes::tag::tag;
 use rst_bytes::word::word_run;
 ghost use mathlib.Core.Path.{_≡_};
 ghost use mathlib.Core.Bool.{true, false};
 ghost use Prim.Native.Nat.{_+_, _<_, _≤_};
 ghost use lib.ListN.{length, drop, getD};
-ghost use Rattle.targetless.specs.Verdict.{endsLine, escapeOf, Tells};
+ghost use Rattle.targetless.specs.Verdict.{endsLine, Tells};
 ghost use Rattle.targetless.specs.Runs.{
-  escapableOf,
   wordLabelled,
-  labelBegins,
   isDead,
+  noLabel,
+  Sized,
+  wrongOf,
+  endedOf,
+  pairedOf,
   destinationRun,
   labelRun,
   plainRun,
@@ -41,101 +43,37 @@ pub fn ends_line(b: u8) -> bool
     b == 10 || b == 13
 }
 
-// Whether a backslash may stand before the byte, in a name or in a destination.
-fn may_follow(b: u8, name: bool) -> bool
-    ensures { λ r. ⌜ r ≡ escapableOf name b ⌝ }
-{
-    if name {
-        return is_escapable(b);
-    }
-    is_destination_escapable(b)
-}
-
-// At a backslash.
-fn escape(s: &[u8], i: usize, name: bool, wrong: bool, near: Verdict, far: Verdict) -> Verdict
-    requires { ⌜ i < length (now s) ⌝ }
-    ensures { λ r. ⌜ r ≡ escapeOf (length (now (s .entry))) (escapableOf name) wrong near far (drop i (now (s .entry))) ⌝ }
-{
-    let j = i + 1;
-    if s.len() <= j {
-        return sure(wrong, s.len());
-    }
-    let c = s[j];
-    if ends_line(c) {
-        return with_lone(near, wrong);
-    }
-    if may_follow(c, name) {
-        return far;
-    }
-    sure(wrong, s.len())
-}
-
 // At a backtick, whether it closes no label.
 fn label_stop(s: &[u8], i: usize) -> Verdict
     requires { ⌜ (i < length (now s)) × (getD (now s) i 0 ≡ 0x60) ⌝ }
     ensures { λ r. ⌜ Tells labelStop r (drop i (now (s .entry))) ⌝ }
 {
     if tag(&s[i..], b"`_") {
-        return nothing(s.len());
+        return nothing();
     }
-    everything(s.len())
+    everything()
 }
 
-// Whether a backtick, or a word that is a label, stands behind the blanks at place n.
-fn begins_label(s: &[u8], n: usize) -> bool
-    requires { ⌜ n ≤ length (now s) ⌝ }
-    ensures { λ r. ⌜ r ≡ labelBegins (drop n (now (s .entry))) ⌝ }
-{
-    let v = &s[n..];
-    let q = space0(v);
-    if v.len() <= q {
-        return false;
-    }
-    let b = v[q];
-    if b == b'`' {
-        return true;
-    }
-    is_word_label(v, q)
-}
-
-// At a line's end behind a colon. In the text a space and the next line stand there: so the name ends, and the target stands on that line. If no
-// label begins there, it is a destination.
-fn line_stop(s: &[u8], i: usize, destination: Verdict) -> Verdict
-    requires here { ⌜ (i < length (now s)) × (endsLine (getD (now s) i 0) ≡ true) ⌝ }
-    requires destination { ⌜ Tells destinationRun destination (drop i (now s)) ⌝ }
-    ensures { λ r. ⌜ Tells lineStop r (drop i (now (s .entry))) ⌝ }
-{
-    match line_ending(&s[i..]) {
-        Part::Taken(k) => {
-            if begins_label(s, i + k) {
-                return with_lone(nothing(s.len()), true);
-            }
-            with_lone(destination, true)
-        }
-        Part::Refused => with_lone(destination, true),
-    }
-}
-
-// At a colon, whether it ends no name, or the target behind it is refused: `target` is the verdict on that, and `destination` the next place's
-// verdict on destinations.
-fn plain_stop(s: &[u8], i: usize, destination: Verdict, target: Verdict) -> Verdict
+// At a colon, whether it ends no name, or the target behind it is refused: `target` is the verdict on that, and `stop` where the line ends behind
+// the colon.
+fn plain_stop(s: &[u8], i: usize, stop: Verdict, target: Verdict) -> Verdict
     requires here { ⌜ (i < length (now s)) × (getD (now s) i 0 ≡ 0x3A) ⌝ }
-    requires destination { ⌜ Tells destinationRun destination (drop (i + 1) (now s)) ⌝ }
+    requires stop { ⌜ Tells lineStop stop (drop (i + 1) (now s)) ⌝ }
     requires target { ⌜ Tells isDead target (drop (i + 2) (now s)) ⌝ }
     ensures { λ r. ⌜ Tells plainStop r (drop i (now (s .entry))) ⌝ }
 {
     let j = i + 1;
     if s.len() <= j {
-        return everything(s.len());
+        return everything();
     }
     let c = s[j];
     if c == b' ' {
         return target;
     }
     if ends_line(c) {
-        return line_stop(s, j, destination);
+        return stop;
     }
-    everything(s.len())
+    everything()
 }
 
 // At a backtick, whether it closes no name, or the target behind is refused: `plain` is the next place's verdict on plain names.
@@ -147,7 +85,7 @@ fn quoted_stop(s: &[u8], i: usize, plain: Verdict) -> Verdict
     if tag(&s[i..], b"`:") {
         return plain;
     }
-    everything(s.len())
+    everything()
 }
 
 // At a backtick, whether it closes a name.
@@ -156,12 +94,12 @@ fn closed_stop(s: &[u8], i: usize) -> Verdict
     ensures { λ r. ⌜ Tells closedStop r (drop i (now (s .entry))) ⌝ }
 {
     if tag(&s[i..], b"`: ") {
-        return everything(s.len());
+        return everything();
     }
-    nothing(s.len())
+    nothing()
 }
 
-// Whether a word that is a label stands at place i.
+// Whether a word that is a label of at most 999 bytes stands at place i. Behind the label one `_` stands, or two.
 fn is_word_label(s: &[u8], i: usize) -> bool
     requires { ⌜ i < length (now s) ⌝ }
     ensures { λ r. ⌜ r ≡ wordLabelled (drop i (now (s .entry))) ⌝ }
@@ -172,32 +110,57 @@ fn is_word_label(s: &[u8], i: usize) -> bool
         return false;
     }
     let b = v[w - 1];
-    b == b'_'
+    if b == b'_' {
+        let a = v[w - 2];
+        if a == b'_' {
+            return w <= 1001;
+        }
+        return w <= 1000;
+    }
+    false
+}
+
+// Whether no label stands behind a backtick: none is closed, or it is refused, or it has more than 999 bytes.
+fn no_label(s: &[u8], i: usize, label: Verdict, size: Size) -> Verdict
+    requires place { ⌜ i ≤ length (now s) ⌝ }
+    requires label { ⌜ Tells labelRun label (drop i (now s)) ⌝ }
+    requires size { ⌜ Sized size (drop i (now s)) ⌝ }
+    ensures { λ r. ⌜ Tells noLabel r (drop i (now (s .entry))) ⌝ }
+{
+    if size.kept < 1000 {
+        return label;
+    }
+    if size.ends == 0 {
+        return everything();
+    }
+    let long = up_to((size.kept - 1000) / size.ends);
+    either(label, with_lone(long, false))
 }
 
 // A target: not told where a label begins; else what is told of a destination, and behind a backtick of a label. Targets begin behind a space.
-fn target_at(s: &[u8], i: usize, destination: Verdict, label: Verdict) -> Verdict
+fn target_at(s: &[u8], i: usize, destination: Verdict, label: Verdict, size: Size) -> Verdict
     requires here { ⌜ (i < length (now s)) × (endsLine (getD (now s) i 0) ≡ false) ⌝ }
     requires destination { ⌜ Tells destinationRun destination (drop i (now s)) ⌝ }
     requires label { ⌜ Tells labelRun label (drop (i + 1) (now s)) ⌝ }
+    requires size { ⌜ Sized size (drop (i + 1) (now s)) ⌝ }
     ensures { λ r. ⌜ Tells isDead r (drop i (now (s .entry))) ⌝ }
 {
     if i == 0 {
-        return nothing(s.len());
+        return nothing();
     }
     let a = s[i - 1];
     if a != b' ' {
-        return nothing(s.len());
+        return nothing();
     }
     let b = s[i];
     if b == b'`' {
         if tag(&s[i..], b"``") {
             return destination;
         }
-        return both(destination, label);
+        return both(destination, no_label(s, i + 1, label, size));
     }
     if is_word_label(s, i) {
-        return nothing(s.len());
+        return nothing();
     }
     destination
 }
@@ -210,7 +173,7 @@ fn tick_state(s: &[u8], i: usize, near: State) -> State
 {
     let destination = near.destination;
     let plain = near.plain;
-    let target = target_at(s, i, destination, near.label);
+    let target = target_at(s, i, destination, near.label, near.size);
     let label = label_stop(s, i);
     let quoted = quoted_stop(s, i, plain);
     let closed = closed_stop(s, i);
@@ -221,22 +184,25 @@ fn tick_state(s: &[u8], i: usize, near: State) -> State
         quoted,
         closed,
         target,
+        size: Size { kept: 0, ends: 0 },
     }
 }
 
 // At a colon.
-fn colon_state(s: &[u8], i: usize, near: State, far: State) -> State
+fn colon_state(s: &[u8], i: usize, near: State, far: State, stop: Verdict) -> State
     requires here { ⌜ (i < length (now s)) × (getD (now s) i 0 ≡ 0x3A) ⌝ }
     requires near { ⌜ StateTells near (drop (i + 1) (now s)) ⌝ }
     requires far { ⌜ StateTells far (drop (i + 2) (now s)) ⌝ }
+    requires stop { ⌜ Tells lineStop stop (drop (i + 1) (now s)) ⌝ }
     ensures { λ r. ⌜ StateTells r (drop i (now (s .entry))) ⌝ }
 {
     let destination = near.destination;
     let label = near.label;
-    let plain = plain_stop(s, i, destination, far.target);
+    let plain = plain_stop(s, i, stop, far.target);
     let quoted = near.quoted;
     let closed = near.closed;
-    let target = target_at(s, i, destination, label);
+    let size = near.size;
+    let target = target_at(s, i, destination, label, size);
     State {
         destination,
         label,
@@ -244,6 +210,76 @@ fn colon_state(s: &[u8], i: usize, near: State, far: State) -> State
         quoted,
         closed,
         target,
+        size: Size {
+            kept: size.kept + 1,
+            ends: size.ends,
+        },
+    }
+}
+
+// At a backslash that refuses what it stands in.
+fn wrong_state() -> State
+    ensures { λ r. ⌜ r ≡ wrongOf ⌝ }
+{
+    State {
+        destination: everything(),
+        label: everything(),
+        plain: everything(),
+        quoted: everything(),
+        closed: nothing(),
+        target: everything(),
+        size: Size { kept: 0, ends: 0 },
+    }
+}
+
+// At a backslash before a line's end: a space follows it in the text, or nothing.
+fn ended_state(near: State, size: Size) -> State
+    ensures { λ r. ⌜ r ≡ endedOf near size ⌝ }
+{
+    let destination = with_lone(near.destination, true);
+    let label = with_lone(near.label, true);
+    let plain = with_lone(near.plain, true);
+    let quoted = with_lone(near.quoted, true);
+    let closed = with_lone(near.closed, false);
+    State {
+        destination,
+        label,
+        plain,
+        quoted,
+        closed,
+        target: destination,
+        size,
+    }
+}
+
+// At a backslash before a byte that it may stand before in names, and in destinations if `everywhere`.
+fn paired_state(far: State, everywhere: bool, size: Size) -> State
+    ensures { λ r. ⌜ r ≡ pairedOf far everywhere size ⌝ }
+{
+    let plain = far.plain;
+    let quoted = far.quoted;
+    let closed = far.closed;
+    if everywhere {
+        let destination = far.destination;
+        let label = far.label;
+        return State {
+            destination,
+            label,
+            plain,
+            quoted,
+            closed,
+            target: destination,
+            size,
+        };
+    }
+    State {
+        destination: everything(),
+        label: everything(),
+        plain,
+        quoted,
+        closed,
+        target: everything(),
+        size,
     }
 }
 
@@ -254,27 +290,36 @@ fn escape_state(s: &[u8], i: usize, near: State, far: State) -> State
     requires far { ⌜ StateTells far (drop (i + 2) (now s)) ⌝ }
     ensures { λ r. ⌜ StateTells r (drop i (now (s .entry))) ⌝ }
 {
-    let destination = escape(s, i, false, true, near.destination, far.destination);
-    let label = escape(s, i, false, true, near.label, far.label);
-    let plain = escape(s, i, true, true, near.plain, far.plain);
-    let quoted = escape(s, i, true, true, near.quoted, far.quoted);
-    let closed = escape(s, i, true, false, near.closed, far.closed);
-    let target = target_at(s, i, destination, near.label);
-    State {
-        destination,
-        label,
-        plain,
-        quoted,
-        closed,
-        target,
+    let j = i + 1;
+    if s.len() <= j {
+        return wrong_state();
     }
+    let c = s[j];
+    if ends_line(c) {
+        let z = near.size;
+        let size = Size {
+            kept: z.kept + 1,
+            ends: z.ends,
+        };
+        return ended_state(near, size);
+    }
+    if is_escapable(c) {
+        let z = far.size;
+        let size = Size {
+            kept: z.kept + 2,
+            ends: z.ends,
+        };
+        return paired_state(far, is_destination_escapable(c), size);
+    }
+    wrong_state()
 }
 
 // At any byte of a line.
-pub fn state_at(s: &[u8], i: usize, near: State, far: State) -> State
+pub fn state_at(s: &[u8], i: usize, near: State, far: State, stop: Verdict) -> State
     requires here { ⌜ (i < length (now s)) × (endsLine (getD (now s) i 0) ≡ false) ⌝ }
     requires near { ⌜ StateTells near (drop (i + 1) (now s)) ⌝ }
     requires far { ⌜ StateTells far (drop (i + 2) (now s)) ⌝ }
+    requires stop { ⌜ Tells lineStop stop (drop (i + 1) (now s)) ⌝ }
     ensures { λ r. ⌜ StateTells r (drop i (now (s .entry))) ⌝ }
 {
     let b = s[i];
@@ -282,7 +327,7 @@ pub fn state_at(s: &[u8], i: usize, near: State, far: State) -> State
         return tick_state(s, i, near);
     }
     if b == b':' {
-        return colon_state(s, i, near, far);
+        return colon_state(s, i, near, far, stop);
     }
     if b == b'\\' {
         return escape_state(s, i, near, far);
@@ -292,7 +337,8 @@ pub fn state_at(s: &[u8], i: usize, near: State, far: State) -> State
     let plain = near.plain;
     let quoted = near.quoted;
     let closed = near.closed;
-    let target = target_at(s, i, destination, label);
+    let size = near.size;
+    let target = target_at(s, i, destination, label, size);
     State {
         destination,
         label,
@@ -300,5 +346,9 @@ pub fn state_at(s: &[u8], i: usize, near: State, far: State) -> State
         quoted,
         closed,
         target,
+        size: Size {
+            kept: size.kept + 1,
+            ends: size.ends,
+        },
     }
 }

@@ -1,118 +1,127 @@
-// Verdicts, and what is made of them. Each text has at most n bytes.
+// Verdicts, and what is made of them.
 use crate::Verdict;
 ghost use mathlib.Core.Path.{_≡_};
-ghost use Rattle.targetless.specs.Verdict.{bitOf, everything, nothing, sureOf, minOf, maxOf, bothOf, loneOf, overOf, judgedOf};
+ghost use Rattle.targetless.specs.Verdict.{
+  everything,
+  nothing,
+  bothOf,
+  eitherOf,
+  lessOf,
+  onesOf,
+  upToOf,
+  loneOf,
+  overOf,
+  judgedOf,
+};
+
+// All bits.
+const ONES: usize = 0xffff_ffff_ffff_ffff;
 
 // It is so for each indent.
-pub fn everything(n: usize) -> Verdict
-    ensures { λ r. ⌜ r ≡ everything n ⌝ }
+pub fn everything() -> Verdict
+    ensures { λ r. ⌜ r ≡ everything ⌝ }
 {
     Verdict {
-        lone: 1,
-        low: n,
-        high: 0,
+        short: ONES,
+        long: ONES,
     }
 }
 
 // Nothing is told.
-pub fn nothing(n: usize) -> Verdict
-    ensures { λ r. ⌜ r ≡ nothing n ⌝ }
+pub fn nothing() -> Verdict
+    ensures { λ r. ⌜ r ≡ nothing ⌝ }
 {
-    Verdict {
-        lone: 0,
-        low: 0,
-        high: n,
-    }
-}
-
-// Everything or nothing.
-pub fn sure(all: bool, n: usize) -> Verdict
-    ensures { λ r. ⌜ r ≡ sureOf all n ⌝ }
-{
-    if all {
-        return everything(n);
-    }
-    nothing(n)
+    Verdict { short: 0, long: 0 }
 }
 
 // What both verdicts say.
 pub fn both(a: Verdict, b: Verdict) -> Verdict
     ensures { λ r. ⌜ r ≡ bothOf a b ⌝ }
 {
-    let lone = least(a.lone, b.lone);
-    let low = least(a.low, b.low);
-    let high = greatest(a.high, b.high);
-    Verdict { lone, low, high }
+    let short = a.short & b.short;
+    let long = a.long & b.long;
+    Verdict { short, long }
 }
 
-// 1 if so, else 0.
-fn bit(so: bool) -> usize
-    ensures { λ r. ⌜ r ≡ bitOf so ⌝ }
+// What one verdict says or the other.
+pub fn either(a: Verdict, b: Verdict) -> Verdict
+    ensures { λ r. ⌜ r ≡ eitherOf a b ⌝ }
 {
-    if so {
-        return 1;
-    }
-    0
+    let short = a.short | b.short;
+    let long = a.long | b.long;
+    Verdict { short, long }
 }
 
-// The lesser number.
-fn least(a: usize, b: usize) -> usize
-    ensures { λ r. ⌜ r ≡ minOf a b ⌝ }
+// So many less, or 0.
+fn less(a: usize, b: usize) -> usize
+    ensures { λ r. ⌜ r ≡ lessOf a b ⌝ }
 {
     if a < b {
-        return a;
+        return 0;
     }
-    b
+    a - b
 }
 
-// The greater number.
-fn greatest(a: usize, b: usize) -> usize
-    ensures { λ r. ⌜ r ≡ maxOf a b ⌝ }
+// The lowest n bits, or all.
+fn ones(n: usize) -> usize
+    ensures { λ r. ⌜ r ≡ onesOf n ⌝ }
 {
-    if a < b {
-        return b;
+    if 64 <= n {
+        return ONES;
     }
-    a
+    (1 << n) - 1
+}
+
+// It is so for the indents that have at most m bytes with three spaces.
+pub fn up_to(m: usize) -> Verdict
+    ensures { λ r. ⌜ r ≡ upToOf m ⌝ }
+{
+    let short = ones(less(m, 1));
+    let long = ones(less(m, 65));
+    Verdict { short, long }
 }
 
 // The same where a further line follows, and `lone` where none does.
 pub fn with_lone(v: Verdict, lone: bool) -> Verdict
     ensures { λ r. ⌜ r ≡ loneOf v lone ⌝ }
 {
+    if lone {
+        return Verdict {
+            short: v.short | 1,
+            long: v.long,
+        };
+    }
     Verdict {
-        lone: bit(lone),
-        low: v.low,
-        high: v.high,
+        short: v.short & 0xffff_ffff_ffff_fffe,
+        long: v.long,
     }
 }
 
 // At a line's end, by what is told of the next line; `shared` blanks at its front stand at the front of the line behind it too.
-pub fn over(next: Verdict, lone: bool, shared: usize, n: usize) -> Verdict
-    ensures { λ r. ⌜ r ≡ overOf next lone shared n ⌝ }
+pub fn over(next: Verdict, lone: bool, shared: usize) -> Verdict
+    ensures { λ r. ⌜ r ≡ overOf next lone shared ⌝ }
 {
-    if 0 < next.lone {
-        return Verdict {
-            lone: bit(lone),
-            low: next.low,
-            high: least(shared, next.high),
-        };
+    let within = up_to(shared);
+    if judged(next, false, 0) {
+        let short = ONES - within.short;
+        let long = ONES - within.long;
+        return with_lone(either(next, Verdict { short, long }), lone);
     }
-    Verdict {
-        lone: bit(lone),
-        low: least(shared, next.low),
-        high: n,
-    }
+    with_lone(both(next, within), lone)
 }
 
-// What a verdict says for an indent that has m bytes with three spaces.
-pub fn judged(v: Verdict, on: bool, m: usize) -> bool
-    ensures { λ r. ⌜ r ≡ judgedOf v on m ⌝ }
+// What a verdict says for an indent of k bytes, by whether a further line follows.
+pub fn judged(v: Verdict, on: bool, k: usize) -> bool
+    ensures { λ r. ⌜ r ≡ judgedOf v on k ⌝ }
 {
     if on {
-        if m <= v.low {
-            return true;
+        if k < 63 {
+            return (v.short >> (k + 1)) & 1 == 1;
         }
-        return v.high < m;
+        if k < 127 {
+            return (v.long >> (k - 63)) & 1 == 1;
+        }
+        return false;
     }
-    0 < v.lone
+    v.short & 1 == 1
 }

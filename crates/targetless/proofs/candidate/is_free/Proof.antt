@@ -27,9 +27,6 @@ goes-on-requires c κs = search needs
 shared-slice-read-b : tie.Need-shared-slice-read-b
 shared-slice-read-b c = search needs
 
-add-judged : tie.Need-add-judged
-add-judged c = search needs
-
 judged-requires : tie.Need-judged-requires
 judged-requires c κs = search needs
 
@@ -53,7 +50,6 @@ is-free-spec =
     part-indent-end
     goes-on-requires
     shared-slice-read-b
-    add-judged
     judged-requires
     returns-2
     is-unnamed-requires

@@ -8,9 +8,6 @@ use borrow.Author.Needs.{needs}
 use Rattle.targetless.proofs.candidate.is_unnamed.Statement.{statement}
 use Rattle.targetless.proofs.candidate.is_unnamed.Tie as tie
 
-add-m : tie.Need-add-m
-add-m c = search needs
-
 sub-v : tie.Need-sub-v
 sub-v c = search needs
 
@@ -63,7 +60,6 @@ pub is-unnamed-spec : {M : Type 1} → statement M
 is-unnamed-spec =
     tie.close
     (tie.spec
-    add-m
     sub-v
     part-v-start
     part-v-end

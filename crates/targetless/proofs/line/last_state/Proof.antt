@@ -2,6 +2,7 @@
 -- Assumes nothing.
 use mathlib.Core.Path.{ap, _∙_}
 use mathlib.Core.Bool.{false}
+use Rattle.targetless.specs.declared.Verdict.{Verdict}
 use Rattle.targetless.specs.Verdict.{loneOf}
 use Rattle.targetless.proofs.LeafLaws.{state-of}
 use borrow.Author.Needs.{needs}
@@ -36,7 +37,14 @@ with-lone-requires-3 : tie.Need-with-lone-requires-3
 with-lone-requires-3 c κs = search needs
 
 returns : tie.Need-returns
-returns c = state-of (c .before .before .before .before .before .before .before .with-lone .ensures ∙ ap (λ v. loneOf v false) (c .before .before .before .before .before .before .before .before .everything .ensures)) (c .before .before .before .before .before .before .everything2 .ensures) (c .before .before .before .before .before .everything3 .ensures) (c .before .before .before .before .everything4 .ensures) (c .before .before .with-lone2 .ensures ∙ ap (λ v. loneOf v false) (c .before .before .before .everything5 .ensures)) (c .with-lone3 .ensures ∙ ap (λ v. loneOf v false) (c .before .everything6 .ensures))
+returns c =
+    state-of
+    (c .before .before .before .before .before .before .before .with-lone .ensures ∙ ap (λ (v : Verdict). loneOf v false) (c .before .before .before .before .before .before .before .before .everything .ensures))
+    (c .before .before .before .before .before .before .everything2 .ensures)
+    (c .before .before .before .before .before .everything3 .ensures)
+    (c .before .before .before .before .everything4 .ensures)
+    (c .before .before .with-lone2 .ensures ∙ ap (λ (v : Verdict). loneOf v false) (c .before .before .before .everything5 .ensures))
+    (c .with-lone3 .ensures ∙ ap (λ (v : Verdict). loneOf v false) (c .before .everything6 .ensures))
 
 pub last-state-spec : {M : Type 1} → statement M
 last-state-spec =

@@ -20,11 +20,8 @@ over-requires-4 c κs = search needs
 over-requires-5 : tie.Need-over-requires-5
 over-requires-5 c κs = search needs
 
-over-requires-6 : tie.Need-over-requires-6
-over-requires-6 c κs = search needs
-
 returns : tie.Need-returns
-returns c = state-of (c .before .before .before .before .before .over .ensures) (c .before .before .before .before .over2 .ensures) (c .before .before .before .over3 .ensures) (c .before .before .over4 .ensures) (c .before .over5 .ensures) (c .over6 .ensures)
+returns c = state-of (c .before .before .before .before .over .ensures) (c .before .before .before .over2 .ensures) (c .before .before .over3 .ensures) (c .before .over4 .ensures) (c .over5 .ensures) (c .before .before .before .before .over .ensures)
 
 pub line-state-spec : {M : Type 1} → statement M
 line-state-spec =
@@ -35,5 +32,4 @@ line-state-spec =
     over-requires-3
     over-requires-4
     over-requires-5
-    over-requires-6
     returns)

@@ -1,4 +1,4 @@
--- `runs::closed_stop` meets its contract: the three bytes stand there or not.
+-- `runs::closed_stop` meets its contract: what follows the backtick tells.
 -- Assumes nothing.
 use mathlib.Core.Path.{sym, ap, subst⁻¹, _∙_}
 use lib.ListN.{drop}
@@ -41,9 +41,7 @@ nothing-requires c κs = search needs
 returns-2 : tie.Need-returns-2
 returns-2 c =
     let a = c .before .before .before .before .before .before in
-    let s = a .args .s .now in
-    let i = a .args .i in
-    subst⁻¹ (λ (v : Verdict). Tells closedStop v (drop i s)) (c .nothing .ensures) (tells-none s i (a .pre .0) closedStop)
+    subst⁻¹ (λ (v : Verdict). Tells closedStop v (drop (a .args .i) (a .args .s .now))) (c .nothing .ensures) (tells-none (a .args .s .now) (a .args .i) (a .pre .0) closedStop)
 
 pub closed-stop-spec : {M : Type 1} → statement M
 closed-stop-spec =

@@ -1,11 +1,12 @@
--- `runs::colon_state` meets its contract: a colon is a stop of one of the runs, and the others pass it.
+-- `runs::colon_state` meets its contract: the run over plain names stops there, the others go on.
 -- Assumes nothing.
-use mathlib.Core.Path.{_≡_}
-use lib.ListN.{getD}
-use mathlib.Core.Path.{ap}
+use Prim.Native.Nat.{_+_}
+use mathlib.Core.Path.{_≡_, ap}
 use native.Mathlib.Omega.{arith}
+use lib.ListN.{length, drop, getD, length-drop}
 use Rattle.targetless.specs.Verdict.{endsLine}
 use Rattle.targetless.proofs.StateLaws.{pass-destination, pass-label, pass-quoted, pass-closed, stop-plain}
+use Rattle.targetless.proofs.SizeLaws.{sized-byte}
 use borrow.Author.Needs.{needs}
 use Rattle.targetless.proofs.runs.colon_state.Statement.{statement}
 use Rattle.targetless.proofs.runs.colon_state.Tie as tie
@@ -15,20 +16,24 @@ plain-stop-requires c κs = search needs
 
 target-at-requires : tie.Need-target-at-requires
 target-at-requires c κs =
-    let a = c .before .before .before .before .before .before in
+    let a = c .before .before .before .before .before .before .before in
     let s = a .args .s .now in
     let i = a .args .i in
-    ((a .pre .0 .0, ap endsLine (a .pre .0 .1)), (pass-destination s i (a .pre .0 .0) (ap endsLine (a .pre .0 .1)) (λ (g : getD s i 0 ≡ 0x5C). absurd (omega (arith, g, a .pre .0 .1))) (a .args .near .destination) (a .pre .1 .0 .0), a .pre .1 .0 .1))
+    ((a .pre .0 .0, ap endsLine (a .pre .0 .1)), (pass-destination s i (a .pre .0 .0) (ap endsLine (a .pre .0 .1)) (λ (g : getD s i 0 ≡ 0x5C). absurd (omega (arith, g, a .pre .0 .1))) (a .args .near .destination) (a .pre .1 .0 .0), (a .pre .1 .0 .1, a .pre .1 .0 .6)))
+
+add-t13 : tie.Need-add-t13
+add-t13 c = let a = c .before .before .before .before .before .before .before .before .before in omega (arith, a .pre .0 .0, a .pre .1 .0 .6 .0, length-drop (a .args .i + 1) (a .args .s .now))
 
 returns : tie.Need-returns
 returns c =
-    let a = c .before .before .before .before .before .before .before in
+    let a = c .before .before .before .before .before .before .before .before .before in
     let s = a .args .s .now in
     let i = a .args .i in
     let e = ap endsLine (a .pre .0 .1) in
     let b : (getD s i 0 ≡ 0x5C → ⊥) = λ g. absurd (omega (arith, g, a .pre .0 .1)) in
     let k : (getD s i 0 ≡ 0x60 → ⊥) = λ g. absurd (omega (arith, g, a .pre .0 .1)) in
-    (pass-destination s i (a .pre .0 .0) e b (a .args .near .destination) (a .pre .1 .0 .0), pass-label s i (a .pre .0 .0) e b k (a .args .near .label) (a .pre .1 .0 .1), stop-plain s i (a .pre .0 .0) e (a .pre .0 .1) _ (c .before .before .before .plain-stop .ensures), pass-quoted s i (a .pre .0 .0) e b k (a .args .near .quoted) (a .pre .1 .0 .3), pass-closed s i (a .pre .0 .0) e b k (a .args .near .closed) (a .pre .1 .0 .4), c .target-at .ensures)
+    let p = a .pre .1 .0 in
+    (pass-destination s i (a .pre .0 .0) e b (a .args .near .destination) (p .0), pass-label s i (a .pre .0 .0) e b k (a .args .near .label) (p .1), stop-plain s i (a .pre .0 .0) e (a .pre .0 .1) _ (c .before .before .before .before .before .plain-stop .ensures), pass-quoted s i (a .pre .0 .0) e b k (a .args .near .quoted) (p .3), pass-closed s i (a .pre .0 .0) e b k (a .args .near .closed) (p .4), c .before .target-at .ensures, sized-byte s i (a .pre .0 .0) (a .args .near .size) e b k (p .6))
 
 pub colon-state-spec : {M : Type 1} → statement M
-colon-state-spec = tie.close (tie.spec plain-stop-requires target-at-requires returns)
+colon-state-spec = tie.close (tie.spec plain-stop-requires target-at-requires add-t13 returns)

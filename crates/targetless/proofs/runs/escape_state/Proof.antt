@@ -1,57 +1,98 @@
--- `runs::escape_state` meets its contract: a backslash takes the next byte along in each run, or is wrong.
+-- `runs::escape_state` meets its contract: each way is one of what may stand behind the backslash.
 -- Assumes nothing.
-use mathlib.Core.Path.{ap, subst⁻¹}
-use lib.ListN.{drop}
-use Rattle.targetless.specs.declared.Verdict.{Verdict}
-use Rattle.targetless.specs.Verdict.{endsLine, Tells}
-use Rattle.targetless.specs.Runs.{destinationRun, labelRun, plainRun, quotedRun, closedRun}
-use Rattle.targetless.proofs.StateLaws.{escape-destination, escape-label, escape-plain, escape-quoted, escape-closed}
+use Prim.Native.Nat.{_+_}
+use mathlib.Core.Path.{_≡_, sym, ap, subst, subst⁻¹, _∙_}
+use native.Mathlib.Omega.{arith}
+use lib.ListN.{drop, length-drop}
+use Rattle.targetless.specs.declared.State.{State}
+use Rattle.targetless.specs.Runs.{pairedOf, StateTells}
+use Rattle.targetless.proofs.SizeLaws.{more}
+use Rattle.targetless.proofs.EscapeLaws.{slash-last, slash-line, slash-pair, slash-wrong}
 use borrow.Author.Needs.{needs}
 use Rattle.targetless.proofs.runs.escape_state.Statement.{statement}
 use Rattle.targetless.proofs.runs.escape_state.Tie as tie
 
-escape-requires : tie.Need-escape-requires
-escape-requires c κs = search needs
+add-j : tie.Need-add-j
+add-j c = search needs
 
-escape-requires-2 : tie.Need-escape-requires-2
-escape-requires-2 c κs = search needs
-
-escape-requires-3 : tie.Need-escape-requires-3
-escape-requires-3 c κs = search needs
-
-escape-requires-4 : tie.Need-escape-requires-4
-escape-requires-4 c κs = search needs
-
-escape-requires-5 : tie.Need-escape-requires-5
-escape-requires-5 c κs = search needs
-
-target-at-requires : tie.Need-target-at-requires
-target-at-requires c κs =
-    let a = c .before .before .before .before .before .before in
-    let s = a .args .s .now in
-    let i = a .args .i in
-    ((a .pre .0 .0, ap endsLine (a .pre .0 .1)), (subst⁻¹ (λ (v : Verdict). Tells destinationRun v (drop i s)) (c .before .before .before .before .escape .ensures) (escape-destination s i (a .pre .0 .0) (a .pre .0 .1) (a .args .near .destination) (a .args .far .destination) (a .pre .1 .0 .0) (a .pre .1 .1 .0)), a .pre .1 .0 .1))
+wrong-state-requires : tie.Need-wrong-state-requires
+wrong-state-requires c κs = search needs
 
 returns : tie.Need-returns
 returns c =
-    let a = c .before .before .before .before .before .before .before in
+    let a = c .before .before .before in
     let s = a .args .s .now in
     let i = a .args .i in
-    let h = a .pre .0 .0 in
-    let f = a .pre .0 .1 in
-    let x = a .args .near in
-    let y = a .args .far in
-    let p = a .pre .1 in
-    (subst⁻¹ (λ (v : Verdict). Tells destinationRun v (drop i s)) (c .before .before .before .before .before .escape .ensures) (escape-destination s i h f (x .destination) (y .destination) (p .0 .0) (p .1 .0)), subst⁻¹ (λ (v : Verdict). Tells labelRun v (drop i s)) (c .before .before .before .before .escape2 .ensures) (escape-label s i h f (x .label) (y .label) (p .0 .1) (p .1 .1)), subst⁻¹ (λ (v : Verdict). Tells plainRun v (drop i s)) (c .before .before .before .escape3 .ensures) (escape-plain s i h f (x .plain) (y .plain) (p .0 .2) (p .1 .2)), subst⁻¹ (λ (v : Verdict). Tells quotedRun v (drop i s)) (c .before .before .escape4 .ensures) (escape-quoted s i h f (x .quoted) (y .quoted) (p .0 .3) (p .1 .3)), subst⁻¹ (λ (v : Verdict). Tells closedRun v (drop i s)) (c .before .escape5 .ensures) (escape-closed s i h f (x .closed) (y .closed) (p .0 .4) (p .1 .4)), c .target-at .ensures)
+    subst⁻¹ (λ (x : State). StateTells x (drop i s)) (c .wrong-state .ensures)
+    (slash-last s i (a .pre .0 .0) (a .pre .0 .1) (a .args .near) (a .args .far) (a .pre .1 .0) (a .pre .1 .1) (omega (arith, c .before .if1 .taken)))
+
+shared-slice-read-c : tie.Need-shared-slice-read-c
+shared-slice-read-c c = search needs
+
+ends-line-requires : tie.Need-ends-line-requires
+ends-line-requires c κs = search needs
+
+add-t16 : tie.Need-add-t16
+add-t16 c = let a = c .before .before .before .before .before .before .before in omega (arith, a .pre .0 .0, a .pre .1 .0 .6 .0, length-drop (a .args .i + 1) (a .args .s .now))
+
+ended-state-requires : tie.Need-ended-state-requires
+ended-state-requires c κs = search needs
+
+returns-2 : tie.Need-returns-2
+returns-2 c =
+    let a = c .before .before .before .before .before .before .before .before in
+    let s = a .args .s .now in
+    let i = a .args .i in
+    subst⁻¹ (λ (x : State). StateTells x (drop i s)) (c .ended-state .ensures)
+    (slash-line s i (a .pre .0 .0) (a .pre .0 .1) (a .args .near) (a .args .far) (a .pre .1 .0) (a .pre .1 .1) (omega (arith, c .before .before .before .before .before .before .if1 .left)) (sym (c .before .before .before .before .ends-line .ensures) ∙ c .before .before .before .if2 .taken))
+
+is-escapable-requires : tie.Need-is-escapable-requires
+is-escapable-requires c κs = search needs
+
+add-t18 : tie.Need-add-t18
+add-t18 c = let a = c .before .before .before .before .before .before .before .before .before in omega (arith, c .before .before .before .before .before .before .before .if1 .left, a .pre .1 .1 .6 .0, length-drop (a .args .i + 2) (a .args .s .now))
+
+is-destination-escapable-requires : tie.Need-is-destination-escapable-requires
+is-destination-escapable-requires c κs = search needs
+
+paired-state-requires : tie.Need-paired-state-requires
+paired-state-requires c κs = search needs
+
+returns-3 : tie.Need-returns-3
+returns-3 c =
+    let a = c .before .before .before .before .before .before .before .before .before .before .before in
+    let s = a .args .s .now in
+    let i = a .args .i in
+    subst⁻¹ (λ (x : State). StateTells x (drop i s)) (c .paired-state .ensures ∙ ap (λ x. pairedOf (a .args .far) x (more (a .args .far .size) 2)) (c .before .is-destination-escapable .ensures))
+    (slash-pair s i (a .pre .0 .0) (a .pre .0 .1) (a .args .near) (a .args .far) (a .pre .1 .0) (a .pre .1 .1) (omega (arith, c .before .before .before .before .before .before .before .before .before .if1 .left)) (sym (c .before .before .before .before .before .before .before .ends-line .ensures) ∙ c .before .before .before .before .before .before .if2 .left) (sym (c .before .before .before .before .before .is-escapable .ensures) ∙ c .before .before .before .before .if3 .taken))
+
+wrong-state-requires-2 : tie.Need-wrong-state-requires-2
+wrong-state-requires-2 c κs = search needs
+
+returns-4 : tie.Need-returns-4
+returns-4 c =
+    let a = c .before .before .before .before .before .before .before .before in
+    let s = a .args .s .now in
+    let i = a .args .i in
+    subst⁻¹ (λ (x : State). StateTells x (drop i s)) (c .wrong-state2 .ensures)
+    (slash-wrong s i (a .pre .0 .0) (a .pre .0 .1) (a .args .near) (a .args .far) (a .pre .1 .0) (a .pre .1 .1) (omega (arith, c .before .before .before .before .before .before .if1 .left)) (sym (c .before .before .before .before .ends-line .ensures) ∙ c .before .before .before .if2 .left) (sym (c .before .before .is-escapable .ensures) ∙ c .before .if3 .left))
 
 pub escape-state-spec : {M : Type 1} → statement M
 escape-state-spec =
     tie.close
     (tie.spec
-    escape-requires
-    escape-requires-2
-    escape-requires-3
-    escape-requires-4
-    escape-requires-5
-    target-at-requires
-    returns)
+    add-j
+    wrong-state-requires
+    returns
+    shared-slice-read-c
+    ends-line-requires
+    add-t16
+    ended-state-requires
+    returns-2
+    is-escapable-requires
+    add-t18
+    is-destination-escapable-requires
+    paired-state-requires
+    returns-3
+    wrong-state-requires-2
+    returns-4)

@@ -1,4 +1,4 @@
--- `runs::label_stop` meets its contract: the two bytes stand there or not.
+-- `runs::label_stop` meets its contract: what follows the backtick tells.
 -- Assumes nothing.
 use mathlib.Core.Path.{sym, ap, subst⁻¹, _∙_}
 use lib.ListN.{drop}
@@ -31,9 +31,7 @@ nothing-requires c κs = search needs
 returns : tie.Need-returns
 returns c =
     let a = c .before .before .before .before .before .before in
-    let s = a .args .s .now in
-    let i = a .args .i in
-    subst⁻¹ (λ (v : Verdict). Tells labelStop v (drop i s)) (c .nothing .ensures) (tells-none s i (a .pre .0) labelStop)
+    subst⁻¹ (λ (v : Verdict). Tells labelStop v (drop (a .args .i) (a .args .s .now))) (c .nothing .ensures) (tells-none (a .args .s .now) (a .args .i) (a .pre .0) labelStop)
 
 everything-requires : tie.Need-everything-requires
 everything-requires c κs = search needs

@@ -1,4 +1,4 @@
--- `runs::plain_stop` meets its contract: what stands behind the colon tells.
+-- `runs::plain_stop` meets its contract: what follows the colon tells.
 -- Assumes nothing.
 use mathlib.Core.Path.{sym, ap, subst⁻¹, _∙_}
 use native.Mathlib.Omega.{arith}
@@ -30,22 +30,15 @@ shared-slice-read-c c = search needs
 returns-2 : tie.Need-returns-2
 returns-2 c =
     let a = c .before .before .before .before in
-    let s = a .args .s .now in
-    let i = a .args .i in
-    plain-target s i (a .pre .0 .0) (ap endsLine (a .pre .0 .1)) (a .pre .0 .1) (omega (arith, c .before .before .if1 .left)) (c .if2 .taken) (a .args .target) (a .pre .1 .1)
+    plain-target (a .args .s .now) (a .args .i) (a .pre .0 .0) (ap endsLine (a .pre .0 .1)) (a .pre .0 .1) (omega (arith, c .before .before .if1 .left)) (c .if2 .taken) (a .args .target) (a .pre .1 .1)
 
 ends-line-requires : tie.Need-ends-line-requires
 ends-line-requires c κs = search needs
 
-line-stop-requires : tie.Need-line-stop-requires
-line-stop-requires c κs =
-    let a = c .before .before .before .before .before .before in
-    ((omega (arith, c .before .before .before .before .if1 .left), sym (c .before .ends-line .ensures) ∙ c .if3 .taken), a .pre .1 .0)
-
 returns-3 : tie.Need-returns-3
 returns-3 c =
-    let a = c .before .before .before .before .before .before .before in
-    plain-line (a .args .s .now) (a .args .i) (a .pre .0 .0) (ap endsLine (a .pre .0 .1)) (a .pre .0 .1) _ (c .line-stop .ensures)
+    let a = c .before .before .before .before .before .before in
+    plain-line (a .args .s .now) (a .args .i) (a .pre .0 .0) (ap endsLine (a .pre .0 .1)) (a .pre .0 .1) (a .args .stop) (a .pre .1 .0)
 
 everything-requires-2 : tie.Need-everything-requires-2
 everything-requires-2 c κs = search needs
@@ -67,7 +60,6 @@ plain-stop-spec =
     shared-slice-read-c
     returns-2
     ends-line-requires
-    line-stop-requires
     returns-3
     everything-requires-2
     returns-4)

@@ -1,4 +1,4 @@
--- `runs::quoted_stop` meets its contract: a name is closed only where a colon follows, and then it is the next place that tells.
+-- `runs::quoted_stop` meets its contract: what follows the backtick tells.
 -- Assumes nothing.
 use mathlib.Core.Path.{sym, ap, subst⁻¹, _∙_}
 use lib.ListN.{drop}
@@ -28,9 +28,7 @@ tag-requires c κs = search needs
 returns : tie.Need-returns
 returns c =
     let a = c .before .before .before .before .before in
-    let s = a .args .s .now in
-    let i = a .args .i in
-    quoted-plain s i (a .pre .0 .0) (ap endsLine (a .pre .0 .1)) (a .pre .0 .1) (sym (c .before .tag .ensures) ∙ c .if1 .taken) (a .args .plain) (a .pre .1)
+    quoted-plain (a .args .s .now) (a .args .i) (a .pre .0 .0) (ap endsLine (a .pre .0 .1)) (a .pre .0 .1) (sym (c .before .tag .ensures) ∙ c .if1 .taken) (a .args .plain) (a .pre .1)
 
 everything-requires : tie.Need-everything-requires
 everything-requires c κs = search needs

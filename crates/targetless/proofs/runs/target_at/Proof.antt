@@ -1,9 +1,10 @@
 -- `runs::target_at` meets its contract: a target that begins no label is a destination; one that begins with a backtick is a label or a destination.
 -- Assumes nothing.
-use mathlib.Core.Path.{sym, subst⁻¹, _∙_}
+use mathlib.Core.Path.{sym, ap, subst⁻¹, _∙_}
+use native.Mathlib.Omega.{arith}
 use lib.ListN.{drop}
 use Rattle.targetless.specs.declared.Verdict.{Verdict}
-use Rattle.targetless.specs.Verdict.{Tells}
+use Rattle.targetless.specs.Verdict.{bothOf, Tells}
 use Rattle.targetless.specs.Runs.{isDead}
 use Rattle.targetless.proofs.StateLaws.{tells-none, target-two, target-ticked, target-other}
 use borrow.Author.Needs.{needs}
@@ -16,9 +17,7 @@ nothing-requires c κs = search needs
 returns : tie.Need-returns
 returns c =
     let a = c .before .before .before in
-    let s = a .args .s .now in
-    let i = a .args .i in
-    subst⁻¹ (λ (v : Verdict). Tells isDead v (drop i s)) (c .nothing .ensures) (tells-none s i (a .pre .0 .0) isDead)
+    subst⁻¹ (λ (v : Verdict). Tells isDead v (drop (a .args .i) (a .args .s .now))) (c .nothing .ensures) (tells-none (a .args .s .now) (a .args .i) (a .pre .0 .0) isDead)
 
 sub-a : tie.Need-sub-a
 sub-a c = search needs
@@ -32,9 +31,7 @@ nothing-requires-2 c κs = search needs
 returns-2 : tie.Need-returns-2
 returns-2 c =
     let a = c .before .before .before .before .before in
-    let s = a .args .s .now in
-    let i = a .args .i in
-    subst⁻¹ (λ (v : Verdict). Tells isDead v (drop i s)) (c .nothing2 .ensures) (tells-none s i (a .pre .0 .0) isDead)
+    subst⁻¹ (λ (v : Verdict). Tells isDead v (drop (a .args .i) (a .args .s .now))) (c .nothing2 .ensures) (tells-none (a .args .s .now) (a .args .i) (a .pre .0 .0) isDead)
 
 shared-slice-read-b : tie.Need-shared-slice-read-b
 shared-slice-read-b c = search needs
@@ -57,19 +54,23 @@ tag-requires c κs = search needs
 returns-3 : tie.Need-returns-3
 returns-3 c =
     let a = c .before .before .before .before .before .before .before .before .before .before in
-    let s = a .args .s .now in
-    let i = a .args .i in
-    target-two s i (a .pre .0 .0) (a .pre .0 .1) (c .before .before .before .before .if3 .taken) (sym (c .before .tag .ensures) ∙ c .if4 .taken) (a .args .destination) (a .pre .1 .0)
+    target-two (a .args .s .now) (a .args .i) (a .pre .0 .0) (a .pre .0 .1) (c .before .before .before .before .if3 .taken) (sym (c .before .tag .ensures) ∙ c .if4 .taken) (a .args .destination) (a .pre .1 .0)
+
+add-no-label : tie.Need-add-no-label
+add-no-label c = search needs
+
+no-label-requires : tie.Need-no-label-requires
+no-label-requires c κs = search needs
 
 both-requires : tie.Need-both-requires
 both-requires c κs = search needs
 
 returns-4 : tie.Need-returns-4
 returns-4 c =
-    let a = c .before .before .before .before .before .before .before .before .before .before .before in
+    let a = c .before .before .before .before .before .before .before .before .before .before .before .before in
     let s = a .args .s .now in
     let i = a .args .i in
-    subst⁻¹ (λ (v : Verdict). Tells isDead v (drop i s)) (c .both .ensures) (target-ticked s i (a .pre .0 .0) (a .pre .0 .1) (c .before .before .before .before .before .if3 .taken) (a .args .destination) (a .args .label) (a .pre .1 .0) (a .pre .1 .1))
+    subst⁻¹ (λ (v : Verdict). Tells isDead v (drop i s)) (c .both .ensures) (target-ticked s i (a .pre .0 .0) (a .pre .0 .1) (c .before .before .before .before .before .before .if3 .taken) (a .args .destination) _ (a .pre .1 .0) (c .before .no-label .ensures))
 
 is-word-label-requires : tie.Need-is-word-label-requires
 is-word-label-requires c κs = search needs
@@ -80,16 +81,12 @@ nothing-requires-3 c κs = search needs
 returns-5 : tie.Need-returns-5
 returns-5 c =
     let a = c .before .before .before .before .before .before .before .before .before in
-    let s = a .args .s .now in
-    let i = a .args .i in
-    subst⁻¹ (λ (v : Verdict). Tells isDead v (drop i s)) (c .nothing3 .ensures) (tells-none s i (a .pre .0 .0) isDead)
+    subst⁻¹ (λ (v : Verdict). Tells isDead v (drop (a .args .i) (a .args .s .now))) (c .nothing3 .ensures) (tells-none (a .args .s .now) (a .args .i) (a .pre .0 .0) isDead)
 
 returns-6 : tie.Need-returns-6
 returns-6 c =
     let a = c .before .before .before .before .before .before .before .before in
-    let s = a .args .s .now in
-    let i = a .args .i in
-    target-other s i (a .pre .0 .0) (a .pre .0 .1) (c .before .before .if3 .left) (sym (c .before .is-word-label .ensures) ∙ c .if5 .left) (a .args .destination) (a .pre .1 .0)
+    target-other (a .args .s .now) (a .args .i) (a .pre .0 .0) (a .pre .0 .1) (c .before .before .if3 .left) (sym (c .before .is-word-label .ensures) ∙ c .if5 .left) (a .args .destination) (a .pre .1 .0)
 
 pub target-at-spec : {M : Type 1} → statement M
 target-at-spec =
@@ -108,6 +105,8 @@ target-at-spec =
     slice-aggregate-tag
     tag-requires
     returns-3
+    add-no-label
+    no-label-requires
     both-requires
     returns-4
     is-word-label-requires

@@ -1,31 +1,52 @@
--- `verdicts::over` meets its contract: `overOf` by whether the next line's verdict holds where no line follows it.
+-- `verdicts::over` meets its contract: it is `overOf`, by whether the next line tells it where no line follows.
 -- Assumes nothing.
+use mathlib.Core.Path.{sym, _∙_}
 use Rattle.targetless.proofs.LeafLaws.{over-lone, over-open}
 use borrow.Author.Needs.{needs}
 use Rattle.targetless.proofs.verdicts.over.Statement.{statement}
 use Rattle.targetless.proofs.verdicts.over.Tie as tie
 
-bit-requires : tie.Need-bit-requires
-bit-requires c κs = search needs
+up-to-requires : tie.Need-up-to-requires
+up-to-requires c κs = search needs
 
-least-requires : tie.Need-least-requires
-least-requires c κs = search needs
+judged-requires : tie.Need-judged-requires
+judged-requires c κs = search needs
+
+sub-short : tie.Need-sub-short
+sub-short c = search needs
+
+sub-long : tie.Need-sub-long
+sub-long c = search needs
+
+either-requires : tie.Need-either-requires
+either-requires c κs = search needs
+
+with-lone-requires : tie.Need-with-lone-requires
+with-lone-requires c κs = search needs
 
 returns : tie.Need-returns
-returns c =
-    let w = c .before .before .before .before .args in
-    over-lone (w .next) (w .lone) (w .shared) (w .n) _ _ (c .before .bit .ensures) (c .before .before .if1 .taken) (c .least .ensures)
+returns c = over-lone (c .before .before .before .before .before .before .before .args .next) _ _ _ (c .before .before .before .before .before .before .before .args .lone) (c .before .before .before .before .before .before .before .args .shared) (c .before .before .before .before .before .before .up-to .ensures) (c .with-lone .ensures) (sym (c .before .before .before .before .before .judged .ensures) ∙ c .before .before .before .before .if1 .taken) (c .before .either .ensures)
 
-bit-requires-2 : tie.Need-bit-requires-2
-bit-requires-2 c κs = search needs
+both-requires : tie.Need-both-requires
+both-requires c κs = search needs
 
-least-requires-2 : tie.Need-least-requires-2
-least-requires-2 c κs = search needs
+with-lone-requires-2 : tie.Need-with-lone-requires-2
+with-lone-requires-2 c κs = search needs
 
 returns-2 : tie.Need-returns-2
-returns-2 c =
-    let w = c .before .before .before .before .args in
-    over-open (w .next) (w .lone) (w .shared) (w .n) _ _ (c .before .bit2 .ensures) (c .before .before .if1 .left) (c .least2 .ensures)
+returns-2 c = over-open (c .before .before .before .before .before .args .next) _ _ _ (c .before .before .before .before .before .args .lone) (c .before .before .before .before .before .args .shared) (c .before .before .before .before .up-to .ensures) (c .with-lone2 .ensures) (sym (c .before .before .before .judged .ensures) ∙ c .before .before .if1 .left) (c .before .both .ensures)
 
 pub over-spec : {M : Type 1} → statement M
-over-spec = tie.close (tie.spec bit-requires least-requires returns bit-requires-2 least-requires-2 returns-2)
+over-spec =
+    tie.close
+    (tie.spec
+    up-to-requires
+    judged-requires
+    sub-short
+    sub-long
+    either-requires
+    with-lone-requires
+    returns
+    both-requires
+    with-lone-requires-2
+    returns-2)
