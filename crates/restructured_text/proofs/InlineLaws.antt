@@ -17,13 +17,14 @@ use Rattle.rst_bytes.specs.declared.Part.the-variants.{Taken, Refused}
 use Rattle.restructured_text.specs.declared.Span.{Span}
 use Rattle.restructured_text.specs.declared.Spans.{Spans}
 use Rattle.restructured_text.specs.declared.Spans.the-variants.{Parsed, Nothing}
+use Rattle.restructured_text.specs.Inner.{isRefused}
 use Rattle.restructured_text.specs.Transform.{Given, whole, refused, textOf, destinationOf}
 use Rattle.restructured_text.specs.Strings.{Link, link, none, no-room, part, paired, linked, lent}
 use Rattle.restructured_text.specs.Delimited.{backtickedOf}
 use Rattle.restructured_text.specs.Text2target.{text2targetOf}
 use Rattle.restructured_text.specs.Label.{parseText2labelOf}
 use Rattle.restructured_text.specs.Inline.{finishedOf, embeddedOf, text2destOf, textLabel2destOf, text2labelOf}
-use Rattle.restructured_text.proofs.TransformLaws.{refuses, text-over}
+use Rattle.restructured_text.proofs.TransformLaws.{text-over}
 use Rattle.restructured_text.proofs.StringsLaws.{none-link, none-room, linked-append, linked-front, linked-le, linked-room, lent-enough}
 use Rattle.restructured_text.proofs.Text2targetLaws.{form-none, Apart, Longer, ticked, angled, text2target-apart, text2target-lf, text2target-longer, text2target-unbracketed, text2target-opened}
 use Rattle.restructured_text.proofs.LabelLaws.{Placed, reference-refused, reference-placed, reference-lf}
@@ -168,7 +169,8 @@ module _ (s t : List ℕ) (h : Tail t) where
 -- An embedded link behind a backtick that stands in the text before < of another.
 
 -- two strings of which the first is refused or not as that of a pair without a link
-paired-alike : (g g′ h : Given) (n n′ : ℕ) → refuses g ≡ refuses g′ → paired g h n ≡ none → paired g′ h n′ ≡ none
+paired-alike : (g g′ h : Given) (n n′ : ℕ) → isRefused g ≡ isRefused g′ → paired g h n ≡ none → paired g′ h n′ ≡ none
+unfolding isRefused
 paired-alike (whole x) (whole x′) (whole y) n n′ e f = absurd (none-link x y n (sym f))
 paired-alike (whole x) (whole x′) (refused y) n n′ e f = refl
 paired-alike (whole x) (refused x′) h n n′ e f = refl
@@ -185,7 +187,7 @@ module _ (l s : List ℕ) (some : 0 < length l) (open-taken : taking 0x60 0x3C f
       let text : take (a .len) (drop (a .start) (0x60 ∷ s)) ≡ take (a .len) s = ap (λ (k : ℕ). take (a .len) (drop k (0x60 ∷ s))) (w .0) in
       let f = sym (ap (finishedOf true (0x60 ∷ l ++ s)) (w .1)) ∙ e in
       paired-alike (textOf (take (length l + a .len) (l ++ s))) (textOf (part a (0x60 ∷ s))) (destinationOf (part b (0x60 ∷ s))) (length l + n) n
-      (ap (λ (r : List ℕ). refuses (textOf r)) (take-append-add l s (a .len)) ∙ text-over 0x60 0x3C l (take (a .len) s) open-taken ∙ ap (λ (r : List ℕ). refuses (textOf r)) (sym text))
+      (ap (λ (r : List ℕ). isRefused (textOf r)) (take-append-add l s (a .len)) ∙ text-over 0x60 0x3C l (take (a .len) s) open-taken ∙ ap (λ (r : List ℕ). isRefused (textOf r)) (sym text))
       (ap (λ (r : List ℕ). paired (textOf (take (length l + a .len) (l ++ s))) (destinationOf (take (b .len) r)) (length l + n)) (sym target) ∙ f)
   finished-longer Nothing y u w e = refl
 

@@ -40,7 +40,8 @@ use Rattle.restructured_text.specs.declared.transform.Transformed.the-va
 use Rattle.restructured_text.specs.Delimited.{delimitedOf}
 use Rattle.restructured_text.specs.Label.{simpleLabelOf}
 use Rattle.restructured_text.specs.Block.{startOf, furtherOf, linesOf, BlockText, block, no-block, no-scratch, blockOf, blockIn, lentBlock}
-use Rattle.restructured_text.specs.Transform.{Given, whole, refused, textOf, destinationOf, answerOf, bytesOf, over}
+use Rattle.restructured_text.specs.Inner.{isRefused}
+use Rattle.restructured_text.specs.Transform.{Given, whole, refused, keptOf, textOf, destinationOf, answerOf, bytesOf, over}
 use Rattle.restructured_text.specs.Strings.{Link, link, none, no-room, part, paired, linked, stringsOf, Ends, lent}
 use Rattle.restructured_text.specs.Target.{plainNameOf, nameOf, labelIn, restOf, isNamed, excluded, behindName, parseLabel2targetOf, namedIn, namedOf, anonymousIn, anonymousOf, anonymousBlockOf, label2targetOf, label2destOf, label2labelOf, startsTarget}
 use Rattle.restructured_text.specs.Definition.{aliasIn, destinationIn, askedOf, toldAs, rawIn, rawOf}
@@ -49,7 +50,7 @@ use Rattle.rst_bytes.proofs.TestLaws.{lt-or-le, neither}
 use Rattle.rst_bytes.proofs.TagLaws.{starts-append}
 use Rattle.restructured_text.proofs.DelimitedLaws.{delimited-none, delimited-within}
 use Rattle.restructured_text.proofs.LabelLaws.{Standing, simple-standing}
-use Rattle.restructured_text.proofs.TransformLaws.{answer-part, answer-refused, text-le, destination-le}
+use Rattle.restructured_text.proofs.TransformLaws.{answer-part, answer-refused, destination-dead, text-le, destination-le}
 use Rattle.restructured_text.proofs.PartLaws.{part-length, part-front, put-here, put-length, set-here, set-before}
 use Rattle.restructured_text.proofs.Text2targetLaws.{Apart}
 use Rattle.restructured_text.proofs.BlockLaws.{from, start-is, start-begins, lines-end, lines-further, block-none, block-no-line, block-taken, lent-short, lent-enough, block-consumed, block-scratch, block-lf}
@@ -411,12 +412,24 @@ module _ (d : List ℕ) (len n : ℕ) (h : (len ≤ n) × (n ≤ length d)) wher
     pub named-stands : (name .start + name .len ≤ target .start) × (target .start + target .len ≤ n) × (n ≤ length d)
     named-stands = named-apart (r .alias) d len n h name target _ parsed
 
-    kept : excluded (r .alias) (midOf (target .start) (reach target) (take len d)) ≡ false
-    kept =
-        raw-kept v r i _
-        (part-reach target (take len d)
+    pub named-inside : target .start + target .len ≤ length (take len d)
+    named-inside = named-text (r .alias) d len n h name target _ parsed
+
+    behind : midOf (target .start) (reach target) (take len d) ≡ part (rawSpan r) v
+    behind =
+        part-reach target (take len d)
         ∙ ap (take (r .len)) (sym (drop-drop (r .start) k (take len d)))
-        ∙ ap (λ (x : List ℕ). part (rawSpan r) x) (sym iv))
+        ∙ ap (λ (x : List ℕ). part (rawSpan r) x) (sym iv)
+
+    -- the target is refused
+    pub named-dead : isRefused (keptOf (midOf (target .start) (reach target) (take len d))) ≡ true → Both (λ (l : Bool). namedOf l (take len d) n) [] NoDefinition
+    named-dead g =
+        let f = ap (λ (y : Raw). isRefused (keptOf (part (rawSpan y) v))) (sym i) ∙ sym (ap (λ (x : List ℕ). isRefused (keptOf x)) behind) ∙ g in
+        let w = named-refused (take len d) n name k v e iv _ (destination-dead (part (rawSpan (rawOf v)) v) f) in
+        told-neither (λ (l : Bool). namedOf l (take len d) n) true (w true) (w false)
+
+    kept : excluded (r .alias) (midOf (target .start) (reach target) (take len d)) ≡ false
+    kept = raw-kept v r i _ behind
 
     is-linked : namedOf (r .alias) (take len d) n ≡ linked true d name target n
     is-linked = named-found (r .alias) d len n h name target _ parsed kept
@@ -440,6 +453,10 @@ module _ (d : List ℕ) (len n : ℕ) (h : (len < n) × (n ≤ length d)) (r : R
   anonymous-refused g =
       told-neither (λ (l : Bool). anonymousOf l (take len d) n) (r .alias) (anonymous-wrong (r .alias) d len n h (rawSpan r) (raw-rest (take len d) r i) whole-kept g)
       (anonymous-other (take len d) n r i)
+
+  -- whitespace could not be dropped, so that it is
+  pub anonymous-dead : isRefused (keptOf (midOf (r .start) (reach (rawSpan r)) d)) ≡ true → Both (λ (l : Bool). anonymousOf l (take len d) n) [] NoDefinition
+  anonymous-dead g = anonymous-refused (sym (ap answerOf (destination-dead (midOf (r .start) (reach (rawSpan r)) d) g)))
 
   -- it gave a string, which was told with the name behind the text
   pub anonymous-told :

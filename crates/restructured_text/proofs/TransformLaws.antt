@@ -1,27 +1,29 @@
 -- The laws of specs/Transform.antt. One step of `reading` goes by the next byte or two, at a position of a text, by the code's
 -- tests. A transform works in place: what it wrote stands at the front of its text, and from there on the text is as it was, so
--- that what is read is still the old text. What a transform gives is no longer than its text.
+-- that what is read is still the old text. What a transform gives is no longer than its text. Whether a destination is refused goes by its
+-- next bytes too, and bytes that are no backslash change nothing of it.
 -- Assumes nothing.
-use Prim.Native.Nat.{ℕ, suc, _+_, _-_, _<_, _≤_}
-use mathlib.Core.Path.{_≡_, refl, sym, ap, subst⁻¹, _∙_}
+use Prim.Native.Nat.{ℕ, zero, suc, _+_, _-_, _<_, _≤_}
+use mathlib.Core.Path.{_≡_, refl, sym, ap, subst, subst⁻¹, _∙_}
 use mathlib.Core.List.{List, [], _∷_, _++_, append-assoc, append-nil}
 use mathlib.Core.Bool.{Bool, true, false, _||_, not, false≢true}
 use native.Mathlib.Numerals.{add-one}
 use native.Mathlib.Omega.{arith}
 use lib.Dec.{eqb}
-use lib.ListN.{length, take, drop, set, getD, take-append-drop, length-set, length-append}
+use lib.ListN.{length, take, drop, set, getD, take-append-drop, length-set, length-append, length-drop}
 use lib.Seq.{take-suc-set, drop-set-lt, drop-drop, length-take-le, take-append-seam, drop-append-seam, drop-append-le}
 use borrow.Author.Tests.{eq-eqb, ne-eqb}
+use Rattle.rst_bytes.specs.Appending.{free}
 use Rattle.rst_bytes.specs.Escaped.{isEscapable, isStop, taking}
 use Rattle.rst_bytes.specs.declared.Part.the-variants.{Taken}
 use Rattle.rst_bytes.specs.Line.{isMultispace, bytesFrom}
-use Rattle.rst_bytes.proofs.Lists.{drop-next, drop-two, drop-last, drop-end}
+use Rattle.rst_bytes.proofs.Lists.{part-from, drop-next, drop-two, drop-last, drop-end}
 use Rattle.rst_bytes.proofs.TestLaws.{picks-first, picks-second, by-test}
-use Rattle.rst_bytes.proofs.EscapedLaws.{refused-taken, taken-is}
+use Rattle.rst_bytes.proofs.EscapedLaws.{refused-taken, taken-is, free-next, no-slash}
 use Rattle.rst_bytes.proofs.LineLaws.{bytes-within, bytes-count}
 use Rattle.restructured_text.specs.declared.transform.Transformed.{Transformed}
 use Rattle.restructured_text.specs.declared.transform.Transformed.the-variants.{Text, Wrong}
-use Rattle.restructured_text.specs.Inner.{isBare}
+use Rattle.restructured_text.specs.Inner.{isBare, isRefused}
 use Rattle.restructured_text.specs.Transform.{Given, whole, refused, onto, reading, gives, itself, only, unescapedOf, isDestinationEscapable, unblank, keptOf, textOf, destinationOf, transformOf, answerOf, bytesOf, over}
 
 -- What is put in front.
@@ -394,41 +396,105 @@ kept-start = start keptOf one
         other isDestinationEscapable (λ c. 0x5C ∷ c ∷ []) unblank b l (bare-apart b e .0)
         ∙ ap (λ (x : List ℕ). onto x (keptOf l)) (picks-second _ _ _ (bare-apart b e .1))
 
--- whether a transform refuses
-abbrev pub refuses : Given → Bool
-refuses (whole l) = false
-refuses (refused l) = true
+-- Whether a transform refuses: what is put in front changes nothing of it.
+pub onto-refused : (l : List ℕ) (g : Given) → isRefused (onto l g) ≡ isRefused g
+unfolding isRefused
+onto-refused l (whole x) = refl
+onto-refused l (refused x) = refl
 
-refuses-onto : (a : List ℕ) (g : Given) → refuses (onto a g) ≡ refuses g
-refuses-onto a (whole l) = refl
-refuses-onto a (refused l) = refl
+pub refused-is : (g : Given) → isRefused g ≡ true → g ≡ refused (bytesOf g)
+unfolding isRefused
+refused-is (whole l) e = absurd (false≢true e)
+refused-is (refused l) e = refl
+
+-- A destination is refused where dropping whitespace is.
+pub destination-dead : (s : List ℕ) → isRefused (keptOf s) ≡ true → destinationOf s ≡ refused (bytesOf (keptOf s))
+destination-dead s e = destination-refused s _ (refused-is (keptOf s) e)
+
+-- Whether it is, by its first bytes.
+pub kept-byte : (b : ℕ) (l : List ℕ) → eqb b 0x5C ≡ false → isRefused (keptOf (b ∷ l)) ≡ isRefused (keptOf l)
+kept-byte b l e = ap isRefused (other isDestinationEscapable (λ c. 0x5C ∷ c ∷ []) unblank b l e) ∙ onto-refused _ (keptOf l)
+
+pub kept-alone : (b : ℕ) → eqb b 0x5C ≡ true → isRefused (keptOf (b ∷ [])) ≡ true
+unfolding isRefused
+kept-alone b e = ap isRefused (alone isDestinationEscapable (λ c. 0x5C ∷ c ∷ []) unblank b e)
+
+module _ (b c : ℕ) (l : List ℕ) (e : eqb b 0x5C ≡ true) where
+  pub kept-pair : isDestinationEscapable c ≡ true → isRefused (keptOf (b ∷ c ∷ l)) ≡ isRefused (keptOf l)
+  kept-pair f = ap isRefused (escape isDestinationEscapable (λ d. 0x5C ∷ d ∷ []) unblank b c l e f) ∙ onto-refused _ (keptOf l)
+
+  pub kept-wrong : isDestinationEscapable c ≡ false → isRefused (keptOf (b ∷ c ∷ l)) ≡ true
+  unfolding isRefused
+  kept-wrong f = ap isRefused (wrong isDestinationEscapable (λ d. 0x5C ∷ d ∷ []) unblank b c l e f)
+
+-- bytes at the front that are no backslash, i of them
+kept-front : (i : ℕ) (s : List ℕ) → free 0x5C 0x5C (take i s) ≡ true → isRefused (keptOf s) ≡ isRefused (keptOf (drop i s))
+kept-front zero s f = refl
+kept-front (suc i) [] f = refl
+kept-front (suc i) (b ∷ l) f =
+    let w = free-next 0x5C 0x5C b (take i l) f in
+    kept-byte b l (no-slash b (w .0)) ∙ kept-front i l (w .1)
+
+-- The same at a position of a text, by the code's tests.
+module _ (s : List ℕ) (i : ℕ) where
+  -- nothing is left
+  pub kept-end : length s ≤ i → isRefused (keptOf (drop i s)) ≡ false
+  unfolding isRefused
+  kept-end h = ap isRefused (at-end isDestinationEscapable (λ c. 0x5C ∷ c ∷ []) unblank s i h)
+
+  -- a backslash, last
+  pub kept-last : i < length s → length s ≤ i + 1 → getD s i 0 ≡ 0x5C → isRefused (keptOf (drop i s)) ≡ true
+  kept-last h l e = rw (drop-last s i h l) (kept-alone _ (eq-eqb _ _ e))
+
+  -- a byte that is no backslash
+  pub kept-other : i < length s → (getD s i 0 ≡ 0x5C → ⊥) → isRefused (keptOf (drop i s)) ≡ isRefused (keptOf (drop (i + 1) s))
+  kept-other h e = rw (drop-next s i h) (kept-byte _ _ (ne-eqb _ _ e))
+
+  -- a backslash with a byte that it takes along, or with another one
+  module _ (h : i + 1 < length s) (e : getD s i 0 ≡ 0x5C) where
+    pub kept-two : isDestinationEscapable (getD s (i + 1) 0) ≡ true → isRefused (keptOf (drop i s)) ≡ isRefused (keptOf (drop (i + 2) s))
+    kept-two f = rw (drop-two s i h) (kept-pair _ _ _ (eq-eqb _ _ e) f)
+
+    pub kept-bad : isDestinationEscapable (getD s (i + 1) 0) ≡ false → isRefused (keptOf (drop i s)) ≡ true
+    kept-bad f = rw (drop-two s i h) (kept-wrong _ _ _ (eq-eqb _ _ e) f)
+
+  -- r bytes that are no backslash
+  pub kept-passed :
+      (r : ℕ) → i ≤ length s → r ≤ length (take (length s - i) (drop i s)) → free 0x5C 0x5C (take r (take (length s - i) (drop i s))) ≡ true
+      → (i + r ≤ length s) × (isRefused (keptOf (drop i s)) ≡ isRefused (keptOf (drop (i + r) s)))
+  kept-passed r g h f =
+      let w : take (length s - i) (drop i s) ≡ drop i s = part-from s i in (
+        omega (arith, h, ap length w, length-drop i s),
+        kept-front r (drop i s) (subst (λ (v : List ℕ). free 0x5C 0x5C (take r v) ≡ true) w f)
+            ∙ ap (λ (v : List ℕ). isRefused (keptOf v)) (drop-drop r i s),
+      )
 
 -- behind a text that `escaped` takes as a whole, unescaping refuses if it does so there
-unescaped-over : (p q : ℕ) (keep : Bool) (l s : List ℕ) (n k : ℕ) → n + length l ≡ k → taking p q false n l ≡ Taken k → refuses (unescapedOf keep (l ++ s)) ≡ refuses (unescapedOf keep s)
+unescaped-over : (p q : ℕ) (keep : Bool) (l s : List ℕ) (n k : ℕ) → n + length l ≡ k → taking p q false n l ≡ Taken k → isRefused (unescapedOf keep (l ++ s)) ≡ isRefused (unescapedOf keep s)
 unfolding taking
 unescaped-over p q keep [] s n k h e = refl
 unescaped-over p q keep (b ∷ []) s n k h e =
-    by-test (λ x. x ≡ Taken k → refuses (unescapedOf keep (b ∷ s)) ≡ refuses (unescapedOf keep s)) (eqb b 0x5C) _ _
+    by-test (λ x. x ≡ Taken k → isRefused (unescapedOf keep (b ∷ s)) ≡ isRefused (unescapedOf keep s)) (eqb b 0x5C) _ _
     (λ f g. absurd (refused-taken k g))
-    (λ f g. ap refuses (other isEscapable (λ c. only (gives keep c) c) itself b s f) ∙ refuses-onto (itself b) (unescapedOf keep s))
+    (λ f g. ap isRefused (other isEscapable (λ c. only (gives keep c) c) itself b s f) ∙ onto-refused (itself b) (unescapedOf keep s))
     e
 unescaped-over p q keep (b ∷ c ∷ l) s n k h e =
-    by-test (λ x. x ≡ Taken k → refuses (unescapedOf keep (b ∷ c ∷ l ++ s)) ≡ refuses (unescapedOf keep s)) (eqb b 0x5C) _ _
-    (λ f. by-test (λ x. x ≡ Taken k → refuses (unescapedOf keep (b ∷ c ∷ l ++ s)) ≡ refuses (unescapedOf keep s)) (isEscapable c) _ _
+    by-test (λ x. x ≡ Taken k → isRefused (unescapedOf keep (b ∷ c ∷ l ++ s)) ≡ isRefused (unescapedOf keep s)) (eqb b 0x5C) _ _
+    (λ f. by-test (λ x. x ≡ Taken k → isRefused (unescapedOf keep (b ∷ c ∷ l ++ s)) ≡ isRefused (unescapedOf keep s)) (isEscapable c) _ _
     (λ g i.
-    ap refuses (escape isEscapable (λ d. only (gives keep d) d) itself b c (l ++ s) f g)
-    ∙ refuses-onto (only (gives keep c) c) (unescapedOf keep (l ++ s))
+    ap isRefused (escape isEscapable (λ d. only (gives keep d) d) itself b c (l ++ s) f g)
+    ∙ onto-refused (only (gives keep c) c) (unescapedOf keep (l ++ s))
     ∙ unescaped-over p q keep l s (n + 1 + 1) k (omega arith) i)
     (λ g i. absurd (refused-taken k i)))
-    (λ f. by-test (λ x. x ≡ Taken k → refuses (unescapedOf keep (b ∷ c ∷ l ++ s)) ≡ refuses (unescapedOf keep s)) (isStop p q b) _ _
+    (λ f. by-test (λ x. x ≡ Taken k → isRefused (unescapedOf keep (b ∷ c ∷ l ++ s)) ≡ isRefused (unescapedOf keep s)) (isStop p q b) _ _
     (λ g i. absurd (omega (arith, taken-is n k i)))
     (λ g i.
-    ap refuses (other isEscapable (λ d. only (gives keep d) d) itself b (c ∷ l ++ s) f)
-    ∙ refuses-onto (itself b) (unescapedOf keep (c ∷ l ++ s))
+    ap isRefused (other isEscapable (λ d. only (gives keep d) d) itself b (c ∷ l ++ s) f)
+    ∙ onto-refused (itself b) (unescapedOf keep (c ∷ l ++ s))
     ∙ unescaped-over p q keep (c ∷ l) s (n + 1) k (omega arith) i))
     e
 
 -- so does the text transform
-pub text-over : (p q : ℕ) (l s : List ℕ) → taking p q false 0 l ≡ Taken (length l) → refuses (textOf (l ++ s)) ≡ refuses (textOf s)
+pub text-over : (p q : ℕ) (l s : List ℕ) → taking p q false 0 l ≡ Taken (length l) → isRefused (textOf (l ++ s)) ≡ isRefused (textOf s)
 unfolding textOf
 text-over p q l s e = unescaped-over p q false l s 0 (length l) (omega arith) e

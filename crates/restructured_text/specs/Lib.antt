@@ -43,7 +43,8 @@
 --                further lines; DelimitedLaws delimited-taken, delimited-none, delimited-unclosed, delimited-refused: a part between tags;
 --                LabelLaws raw-quoted, raw-word, word-one, word-none, simple-named, simple-none, simple-empty, simple-long: a simple label;
 --                TargetLaws name-quoted, name-plain, plain-named, plain-none, parse-none: a name; raw-is, raw-all: a raw target;
---                named-none, named-refused, anonymous-refuses: a target that is none
+--                named-none, named-refused, anonymous-refuses: a target that is none; TransformLaws kept-byte, kept-alone, kept-pair,
+--                kept-wrong: whether a destination is refused (isRefused of Inner), by its first bytes; destination-dead: then the transform refuses it
 --   calm         where no _ and no backtick stands before white space or the end (Calm) no inline form is found: CalmLaws calm-text2dest,
 --                calm-text-label2dest, calm-text2label; before LF or the end no target either: calm-label2dest, calm-label2label;
 --                calm-drop: what is behind in it is calm too

@@ -9,14 +9,18 @@ use crate::label::SimpleLabel;
 use crate::label::rst_parse_simple_label;
 use crate::scratch::transformed;
 use crate::transform::Transformed;
+use crate::transform::is_destination_escapable;
 use crate::transform::rst_escaped_link_destination_transform;
 use rst_bytes::Part;
+use rst_bytes::free::free_front;
 use rst_bytes::line::space0;
 use rst_bytes::tag::tag;
 ghost use mathlib.Core.Path.{_≡_};
 ghost use mathlib.Core.Bool.{true, false};
 ghost use Prim.Native.Nat.{_≤_, _<_};
 ghost use lib.ListN.{length, take};
+ghost use Rattle.restructured_text.specs.Inner.{isRefused};
+ghost use Rattle.restructured_text.specs.Transform.{keptOf};
 ghost use Rattle.restructured_text.specs.Strings.{lent, stringsOf, Ends};
 ghost use Rattle.restructured_text.specs.Target.{
   plainNameOf,
@@ -159,6 +163,39 @@ fn told(found: Strings, alias: bool) -> Definition
     }
 }
 
+// Whether a destination is refused: a wrong escape stands in it. Each 16 steps bytes that are no backslash are passed many at once.
+fn is_wrong(d: &[u8]) -> bool
+    ensures { λ r. ⌜ r ≡ isRefused (keptOf (now (d .entry))) ⌝ }
+{
+    let mut i = 0;
+    let mut wait: usize = 0;
+    while i < d.len() {
+        if wait == 0 {
+            i = i + free_front(&d[i..], b'\\', b'\\', b'\\');
+            wait = 16;
+        } else {
+            let b = d[i];
+            if b == b'\\' {
+                let j = i + 1;
+                if d.len() <= j {
+                    return true;
+                }
+                let e = d[j];
+                if is_destination_escapable(e) {
+                    i = i + 2;
+                    wait = wait - 1;
+                } else {
+                    return true;
+                }
+            } else {
+                i = i + 1;
+                wait = wait - 1;
+            }
+        }
+    }
+    false
+}
+
 // What a `.. ` block defines whose text is the first len bytes of d and which consumed n bytes.
 fn named_target(d: &mut [u8], len: usize, n: usize) -> Definition
     requires { ⌜ (len ≤ n) × (n ≤ length (now d)) ⌝ }
@@ -172,8 +209,13 @@ fn named_target(d: &mut [u8], len: usize, n: usize) -> Definition
         return Definition::NoDefinition;
     };
     let raw = raw_target(&text[k..]);
+    let b = k + raw.start;
+    let e = b + raw.len;
+    if is_wrong(&text[b..e]) {
+        return Definition::NoDefinition;
+    }
     let target = Span {
-        start: k + raw.start,
+        start: b,
         len: raw.len,
     };
     told(transformed(d, name, target, true, n), raw.alias)
@@ -190,6 +232,9 @@ fn anonymous_target(d: &mut [u8], len: usize, n: usize) -> Definition
     let raw = raw_target(&v[..len]);
     let b = raw.start;
     let e = b + raw.len;
+    if is_wrong(&v[b..e]) {
+        return Definition::NoDefinition;
+    }
     let Transformed::Text(j) = rst_escaped_link_destination_transform(&mut d[b..e]) else {
         return Definition::NoDefinition;
     };

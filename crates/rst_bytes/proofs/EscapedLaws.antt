@@ -377,7 +377,8 @@ free-next p q b l h = go (isStop p q b) refl h
     go true e f = absurd (false≢true f)
     go false e f = (e, f)
 
-no-slash : (b : ℕ) → isStop 0x5C 0x5C b ≡ false → eqb b 0x5C ≡ false
+-- a byte that is no backslash, by the test for two stop bytes
+pub no-slash : (b : ℕ) → isStop 0x5C 0x5C b ≡ false → eqb b 0x5C ≡ false
 unfolding isStop
 no-slash b e = neither (eqb b 0x5C) (eqb b 0x5C) e .0
 

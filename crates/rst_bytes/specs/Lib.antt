@@ -8,6 +8,7 @@
 --   Trim      trimOf           trim::trim_end           the front part up to the last character that is not blank
 --   Escaped   isEscapable      escaped::is_escapable    ESCAPABLE
 --             escapedOf        escaped::escaped         a part up to a stop byte
+--             isStop           free::is_stop            one of two bytes
 --   Line      newlineOf        line::newline            LF
 --             lineEndingOf     line::line_ending        LF or CR LF
 --             notLineEndingOf  line::not_line_ending    the rest of the line
@@ -17,7 +18,8 @@
 --             isMultispace     line::is_multispace      space, tab, CR, LF
 --             multispace0Of    line::multispace0        a run of these
 --   Tag       startsWith       tag::tag                 given bytes at the front
---   Appending Body, Tail, free                          what the laws on appended text speak of; free in private contracts too
+--   Appending free             free::free_front         so many bytes at the front that none is one of three; no equation
+--             Body, Tail                                what the laws on appended text speak of
 -- Inner is what the contracts of private functions speak of.
 --
 -- Laws, proved in the file of proofs/ that is named, for the layers above:
@@ -39,8 +41,8 @@
 --                      tab, or one; ending-lf, ending-crlf, ending-none: a line ending, or none; multispace-cases: which bytes are white space
 --   answers            EscapedLaws taken-is: equal answers take as many bytes; refused-taken: none is both taken and refused
 --   without two bytes  where a text has neither: EscapedLaws free-next: its first byte is neither, nor has the rest one; free-more:
---                      nor has it with such a byte in front; free-drop, free-take: nor have its parts; TagLaws starts-free: nor what it
---                      begins with
+--                      nor has it with such a byte in front; free-drop, free-take: nor have its parts; no-slash: a byte that is neither
+--                      of two backslashes is none; TagLaws starts-free: nor what it begins with
 --   lists and tests    Lists part-from, drop-end, drop-next, drop-two, drop-last: parts of a list; TestLaws picks-first,
 --                      picks-second, by-test, by-test₂, lt-or-le, or-cases, neither: what a test picks
 --   appending          LineLaws body-drop; bytes-append: a run is the same with a byte behind it that does not pass; on s ++ 10 ∷ t:

@@ -2,10 +2,10 @@
 //
 // The lowest layer (document 01, "Bytes and the `nom` pieces"). A function takes the part of the document that starts at its
 // place, reads nothing else, asks nothing of its caller and always returns; its contract is an equation with a definition of
-// specs/.
+// specs/, but that of `free_front`, which may stop anywhere before what it is to pass by.
 pub mod domain;
 pub mod escaped;
-mod free;
+pub mod free;
 pub mod line;
 pub mod tag;
 pub mod trim;

@@ -25,43 +25,21 @@ use Rattle.restructured_text.specs.declared.label.SimpleLabel.the-variants.{NoL
 use Rattle.restructured_text.specs.declared.target.Raw.{Raw}
 use Rattle.restructured_text.specs.Definition.{rawOf}
 use Rattle.restructured_text.specs.Delimited.{endsWith, backtickedOf}
+use Rattle.restructured_text.specs.Inner.{isRefused}
 use Rattle.restructured_text.specs.Label.{labelLenMax, simpleLabelOf}
-use Rattle.restructured_text.specs.Transform.{Given, whole, refused, onto, reading, isDestinationEscapable, unescapedOf, keptOf, destinationOf, bytesOf}
+use Rattle.restructured_text.specs.Transform.{refused, isDestinationEscapable, keptOf, destinationOf, bytesOf}
 use Rattle.restructured_text.proofs.DelimitedLaws.{delimited-none, delimited-refused, delimited-is}
 use Rattle.restructured_text.proofs.LabelLaws.{word-one, word-two, word-none, raw-quoted, raw-word, simple-none, simple-empty, simple-long, simple-named}
 use Rattle.restructured_text.proofs.TargetLaws.{raw-is, raw-all}
+use Rattle.restructured_text.proofs.TransformLaws.{destination-dead, kept-byte, kept-alone, kept-pair, kept-wrong}
 use Rattle.targetless.specs.Verdict.{run}
-use Rattle.targetless.specs.Runs.{isRefused, isDead, isLong, noLabel, escapableOf, wordLabelled, destinationRun, labelRun, labelStop}
+use Rattle.targetless.specs.Runs.{isDead, isLong, noLabel, escapableOf, wordLabelled, destinationRun, labelRun, labelStop}
 use Rattle.targetless.proofs.VerdictLaws.{and-both, run-plain, run-stop, run-pair}
 
 -- a test holds or does not
 pub either : (x : Bool) → (x ≡ true) ⊎ (x ≡ false)
 either true = inl refl
 either false = inr refl
-
--- Whether a destination is refused, by its first bytes.
-onto-refused : (l : List ℕ) (g : Given) → isRefused (onto l g) ≡ isRefused g
-unfolding isRefused
-onto-refused l (whole x) = refl
-onto-refused l (refused x) = refl
-
-kept-byte : (b : ℕ) (l : List ℕ) → eqb b 0x5C ≡ false → isRefused (keptOf (b ∷ l)) ≡ isRefused (keptOf l)
-unfolding reading isRefused
-kept-byte b [] e = ap isRefused (picks-second _ _ _ e)
-kept-byte b (c ∷ l) e = ap isRefused (picks-second _ _ _ e) ∙ onto-refused _ (keptOf (c ∷ l))
-
-kept-alone : (b : ℕ) → eqb b 0x5C ≡ true → isRefused (keptOf (b ∷ [])) ≡ true
-unfolding reading isRefused
-kept-alone b e = ap isRefused (picks-first _ _ _ e)
-
-module _ (b c : ℕ) (l : List ℕ) (e : eqb b 0x5C ≡ true) where
-  kept-pair : isDestinationEscapable c ≡ true → isRefused (keptOf (b ∷ c ∷ l)) ≡ isRefused (keptOf l)
-  unfolding reading isRefused
-  kept-pair f = ap isRefused (picks-first _ _ _ e ∙ picks-first _ _ _ f) ∙ onto-refused _ (keptOf l)
-
-  kept-wrong : isDestinationEscapable c ≡ false → isRefused (keptOf (b ∷ c ∷ l)) ≡ true
-  unfolding reading isRefused
-  kept-wrong f = ap isRefused (picks-first _ _ _ e ∙ picks-second _ _ _ f)
 
 -- a run that meets a wrong escape
 run-refused : (t : List ℕ) → destinationRun t ≡ true → isRefused (keptOf t) ≡ true
@@ -172,16 +150,9 @@ whole-dead t e f =
     ∙ run-refused t f
 
 -- what refuses it
-refused-is : (g : Given) → isRefused g ≡ true → g ≡ refused (bytesOf g)
-unfolding isRefused
-refused-is (whole l) e = absurd (false≢true e)
-refused-is (refused l) e = refl
-
 pub dead-refused : (v : List ℕ) → isDead v ≡ true → destinationOf (take (rawOf v .len) (drop (rawOf v .start) v)) ≡ refused (bytesOf (keptOf (take (rawOf v .len) (drop (rawOf v .start) v))))
-unfolding isDead destinationOf
-dead-refused v d =
-    let e = refused-is (keptOf (take (rawOf v .len) (drop (rawOf v .start) v))) d in
-    ap (λ (g : Given). elim g [ whole l ↦ unescapedOf true l | refused l ↦ refused l ]) e
+unfolding isDead
+dead-refused v d = destination-dead (take (rawOf v .len) (drop (rawOf v .start) v)) d
 
 pub dead-unlabelled : (t : List ℕ) → startsWith (0x60 ∷ []) t ≡ false → wordLabelled t ≡ false → destinationRun t ≡ true → isDead t ≡ true
 dead-unlabelled t e f g = whole-dead t (no-label t (delimited-none (0x60 ∷ []) 0x60 0x60 (0x60 ∷ 0x5F ∷ []) t e) f) g

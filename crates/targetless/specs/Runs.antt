@@ -14,17 +14,14 @@ use Rattle.rst_bytes.specs.declared.Part.the-variants.{Taken, Refused}
 use mathlib.Core.Path.{_≡_}
 use Rattle.restructured_text.specs.Definition.{rawOf}
 use Rattle.restructured_text.specs.Delimited.{backtickedOf}
+use Rattle.restructured_text.specs.Inner.{isRefused}
 use Rattle.restructured_text.specs.Label.{labelLenMax}
 use Rattle.restructured_text.specs.Strings.{none}
 use Rattle.restructured_text.specs.Target.{namedOf}
-use Rattle.restructured_text.specs.Transform.{Given, whole, refused, isDestinationEscapable, keptOf}
+use Rattle.restructured_text.specs.Transform.{isDestinationEscapable, keptOf}
 use Rattle.targetless.specs.declared.Size.{Size}
 use Rattle.targetless.specs.declared.State.{State}
 use Rattle.targetless.specs.Verdict.{joinedOf, Blank, everything, nothing, loneOf, Tells, run}
-
-unfoldable pub isRefused : Given → Bool
-isRefused (whole l) = false
-isRefused (refused l) = true
 
 -- the target that stands here, an alias's or a destination, is refused
 unfoldable pub isDead : List ℕ → Bool

@@ -1,5 +1,6 @@
 -- `target::named_target` meets its contract: name and target stand one behind the other in the first len bytes of d, so that they are
--- the same parts of d, `transformed` gives their strings, and there is no target of the other kind.
+-- the same parts of d, `transformed` gives their strings, and there is no target of the other kind. Where a wrong escape is seen in the target
+-- there is none.
 -- Assumes nothing.
 use mathlib.Core.Path.{sym, _∙_}
 use native.Mathlib.Omega.{arith}
@@ -7,7 +8,7 @@ use lib.ListN.{take}
 use lib.Seq.{length-take-le}
 use borrow.Author.Needs.{needs}
 use Rattle.rst_bytes.proofs.Lists.{part-from}
-use Rattle.restructured_text.proofs.TargetLaws.{name-within, nameless, named-stands, named-told}
+use Rattle.restructured_text.proofs.TargetLaws.{name-within, nameless, named-stands, named-inside, named-dead, named-told}
 use Rattle.restructured_text.proofs.target.named_target.Statement.{statement}
 use Rattle.restructured_text.proofs.target.named_target.Tie as tie
 
@@ -43,30 +44,60 @@ part-raw-target-end c = search needs
 raw-target-requires : tie.Need-raw-target-requires
 raw-target-requires c κs = search needs
 
-add-t14 : tie.Need-add-t14
-add-t14 c =
+add-b : tie.Need-add-b
+add-b c =
     let s = c .before .before .before .before .before .before .before .before .before .before in
     let name = sym (c .before .before .before .before .before .before .target-name .ensures) ∙ c .before .before .before .before .name .given .1 in
     omega (arith, s .pre, named-stands (s .args .d .now) (s .args .len) (s .args .n) (s .pre) _ _ name _ (part-from (take (s .args .len) (s .args .d .now)) _) _ (c .before .raw-target .ensures) .1)
 
-transformed-requires : tie.Need-transformed-requires
-transformed-requires c κs =
+add-e : tie.Need-add-e
+add-e c =
     let s = c .before .before .before .before .before .before .before .before .before .before .before in
     let name = sym (c .before .before .before .before .before .before .before .target-name .ensures) ∙ c .before .before .before .before .before .name .given .1 in
-    named-stands (s .args .d .now) (s .args .len) (s .args .n) (s .pre) _ _ name _ (part-from (take (s .args .len) (s .args .d .now)) _) _ (c .before .before .raw-target .ensures)
+    omega (arith, s .pre, named-stands (s .args .d .now) (s .args .len) (s .args .n) (s .pre) _ _ name _ (part-from (take (s .args .len) (s .args .d .now)) _) _ (c .before .before .raw-target .ensures) .1)
 
-told-requires : tie.Need-told-requires
-told-requires c κs = search needs
+sub-is-wrong : tie.Need-sub-is-wrong
+sub-is-wrong c = search needs
+
+part-is-wrong-start : tie.Need-part-is-wrong-start
+part-is-wrong-start c = search needs
+
+part-is-wrong-end : tie.Need-part-is-wrong-end
+part-is-wrong-end c =
+    let s = c .before .before .before .before .before .before .before .before .before .before .before in
+    let name = sym (c .before .before .before .before .before .before .before .target-name .ensures) ∙ c .before .before .before .before .before .name .given .1 in
+    named-inside (s .args .d .now) (s .args .len) (s .args .n) (s .pre) _ _ name _ (part-from (take (s .args .len) (s .args .d .now)) _) _ (c .before .before .raw-target .ensures)
+
+is-wrong-requires : tie.Need-is-wrong-requires
+is-wrong-requires c κs = search needs
 
 same-length-2 : tie.Need-same-length-2
 same-length-2 c = search needs
 
 returns-2 : tie.Need-returns-2
 returns-2 c =
+    let s = c .before .before .before .before .before .before .before .before .before .before .before .before .before .before in
+    let name = sym (c .before .before .before .before .before .before .before .before .before .before .target-name .ensures) ∙ c .before .before .before .before .before .before .before .before .name .given .1 in
+    named-dead (s .args .d .now) (s .args .len) (s .args .n) (s .pre) _ _ name _ (part-from (take (s .args .len) (s .args .d .now)) _) _ (c .before .before .before .before .before .raw-target .ensures) (sym (c .before .is-wrong .ensures) ∙ c .if1 .taken)
+
+transformed-requires : tie.Need-transformed-requires
+transformed-requires c κs =
     let s = c .before .before .before .before .before .before .before .before .before .before .before .before .before .before .before in
     let name = sym (c .before .before .before .before .before .before .before .before .before .before .before .target-name .ensures) ∙ c .before .before .before .before .before .before .before .before .before .name .given .1 in
+    named-stands (s .args .d .now) (s .args .len) (s .args .n) (s .pre) _ _ name _ (part-from (take (s .args .len) (s .args .d .now)) _) _ (c .before .before .before .before .before .before .raw-target .ensures)
+
+told-requires : tie.Need-told-requires
+told-requires c κs = search needs
+
+same-length-3 : tie.Need-same-length-3
+same-length-3 c = search needs
+
+returns-3 : tie.Need-returns-3
+returns-3 c =
+    let s = c .before .before .before .before .before .before .before .before .before .before .before .before .before .before .before .before .before .before .before in
+    let name = sym (c .before .before .before .before .before .before .before .before .before .before .before .before .before .before .before .target-name .ensures) ∙ c .before .before .before .before .before .before .before .before .before .before .before .before .before .name .given .1 in
     let x = c .before .before .before .transformed in
-    named-told (s .args .d .now) (s .args .len) (s .args .n) (s .pre) _ _ name _ (part-from (take (s .args .len) (s .args .d .now)) _) _ (c .before .before .before .before .before .before .raw-target .ensures) (x .last .0) (x .result) _ (x .ensures .0) (x .ensures .1) (c .told .ensures)
+    named-told (s .args .d .now) (s .args .len) (s .args .n) (s .pre) _ _ name _ (part-from (take (s .args .len) (s .args .d .now)) _) _ (c .before .before .before .before .before .before .before .before .before .before .raw-target .ensures) (x .last .0) (x .result) _ (x .ensures .0) (x .ensures .1) (c .told .ensures)
 
 pub named-target-spec : {M : Type 1} → statement M
 named-target-spec =
@@ -82,8 +113,15 @@ named-target-spec =
     part-raw-target-start
     part-raw-target-end
     raw-target-requires
-    add-t14
+    add-b
+    add-e
+    sub-is-wrong
+    part-is-wrong-start
+    part-is-wrong-end
+    is-wrong-requires
+    same-length-2
+    returns-2
     transformed-requires
     told-requires
-    same-length-2
-    returns-2)
+    same-length-3
+    returns-3)
