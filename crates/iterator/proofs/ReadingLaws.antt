@@ -91,14 +91,6 @@ put-rest a d y h =
     ∙ ap (λ (z : List ℕ). y ++ z) (drop-of-length-le (drop a d) {i = length d - a} (omega (arith, length-drop a d)))
     ∙ append-nil y
 
--- what is lent of marks from a place on
-pub marks-part : (m : List ℕ) (a : ℕ) → length m ≡ 16384 → take (16384 - a) (drop a m) ≡ drop a m
-marks-part m a e = ap (λ (n : ℕ). take (n - a) (drop a m)) (sym e) ∙ part-from m a
-
--- and what comes back
-pub marks-rest : (m : List ℕ) (a : ℕ) (v : List ℕ) → length m ≡ 16384 → a ≤ 16384 → drop a (putMid a (16384 - a) m v) ≡ v
-marks-rest m a v e h = subst (λ (n : ℕ). drop a (putMid a (n - a) m v) ≡ v) e (put-rest a m v (omega (arith, e)))
-
 -- Document s, work numbers t and work bytes w before a scan; its answer r, and y, what it left in the bytes that it was lent.
 module _ (s t w : List ℕ) (c : MarkupLinkCollection) (k : Held 0 0 t c) (h : c .at ≤ length s) (l : length s ≤ 16384) (q : Roomy t w) where
   pub filled : c .fill + 16384 ≤ room
@@ -147,12 +139,12 @@ module _ (s t w : List ℕ) (c : MarkupLinkCollection) (k : Held 0 0 t c) (h : c
 
       -- what is known behind it is true of what is read next, with the marks v that were lent from there on
       pub next-known :
-          (known : Known) (m v : List ℕ) → length m ≡ 16384 → TrueBehind (take (length s - c .at) (drop (c .at) s)) v known r
+          (known : Known) (m v : List ℕ) → length s ≤ length m → TrueBehind (take (length s - c .at) (drop (c .at) s)) v known r
           → (n : ℕ) → n ≡ c .at + scannedBytes (linkOf x (drop (c .fill) w′))
-          → Holds 0 known (drop n (putMid (c .at) (16384 - c .at) m v)) (drop n s)
-      next-known known m v h b n g =
+          → Holds 0 known (drop n (putMid (c .at) (length m - c .at) m v)) (drop n s)
+      next-known known m v u b n g =
           subst (λ (z : List ℕ). Holds 0 known z (drop n s))
-          (ap (drop (linkEnd x)) (sym (marks-rest m (c .at) v h (omega arith))) ∙ drop-drop (linkEnd x) (c .at) (putMid (c .at) (16384 - c .at) m v) ∙ ap (λ (z : ℕ). drop z (putMid (c .at) (16384 - c .at) m v)) ends)
+          (ap (drop (linkEnd x)) (sym (put-rest (c .at) m v (omega (arith, h, u)))) ∙ drop-drop (linkEnd x) (c .at) (putMid (c .at) (length m - c .at) m v) ∙ ap (λ (z : ℕ). drop z (putMid (c .at) (length m - c .at) m v)) ends)
           (subst (Holds 0 known (drop (linkEnd x) v))
           (ap (drop (linkEnd x)) (part-from s (c .at)) ∙ drop-drop (linkEnd x) (c .at) s ∙ ap (λ (z : ℕ). drop z s) ends)
           (subst (TrueBehind (take (length s - c .at) (drop (c .at) s)) v known) f b))

@@ -6,7 +6,7 @@ use mathlib.Core.Path.{_≡_}
 use mathlib.Core.List.{List, [], _∷_, _++_}
 use mathlib.Core.Bool.{true, false}
 use lib.Dec.{eqb, ltb}
-use lib.ListN.{length, take, drop}
+use lib.ListN.{length, take, drop, replicate}
 use Rattle.restructured_text.specs.declared.Span.{Span}
 use Rattle.restructured_text.specs.Strings.{part}
 use Rattle.parse.specs.declared.Link.{Link}
@@ -110,6 +110,10 @@ CollectedHeld m t (Refused number) = Unit {0}
 -- areas as long as the document call asks for
 abbrev pub Roomy : List ℕ → List ℕ → Type 0
 Roomy t w = (4096 ≤ length t) × (room ≤ length w)
+
+-- no place of s is marked: there is a mark for each byte, or more, and all are 0
+abbrev pub Unmarked : List ℕ → List ℕ → Type 0
+Unmarked s marks = (length s ≤ length marks) × (marks ≡ replicate (length marks) 0)
 
 abbrev pub nothingYet : MarkupLinkCollection
 nothingYet = record { at = 0; fill = 0; links = 0; label2dest = 0; label2label = 0; counters = started }

@@ -29,6 +29,7 @@ ghost use Rattle.iterator.specs.Inner.{
   Roomy,
   StepHeld,
   CollectedHeld,
+  Unmarked,
   stepOf,
   LinkSmall,
   PairSmall,
@@ -52,6 +53,9 @@ ghost use Rattle.iterator.specs.Inner.{
   scannedBytes,
   nothingYet,
 };
+
+// The longest document that few marks are enough for.
+const SHORT_LEN_MAX: usize = 1024;
 
 // What is collected so far: how far the document is read, how many work bytes are taken, how many rows each table has, and the counters.
 pub struct MarkupLinkCollection {
@@ -391,8 +395,14 @@ fn new() -> MarkupLinkCollection
 
 // All links of the document, or the number of a refusal. What a scan learnt of backticks and blocks is handed to the next; so are the
 // marks of the places at which no block begins, once they are made.
-pub fn collect(document: &[u8], render: u32, numbers: &mut [u32], bytes: &mut [u8]) -> Step
-    requires { ⌜ (length (now document) ≤ 16384) × Roomy (now numbers) (now bytes) ⌝ }
+fn gather(
+    document: &[u8],
+    render: u32,
+    numbers: &mut [u32],
+    bytes: &mut [u8],
+    marks: &mut [u8],
+) -> Step
+    requires { ⌜ (length (now document) ≤ 16384) × (Roomy (now numbers) (now bytes) × Unmarked (now document) (now marks)) ⌝ }
     ensures step { λ r. ⌜ stepOf (now (document .entry)) (now (numbers .exit)) (now (bytes .exit)) r ≡ collectAll render (now (document .entry)) (linksOf (now (document .entry))) ⌝ }
     ensures held { λ r. ⌜ CollectedHeld (length (now (document .entry))) (now (numbers .exit)) r ⌝ }
 {
@@ -403,7 +413,6 @@ pub fn collect(document: &[u8], render: u32, numbers: &mut [u32], bytes: &mut [u
         blocks: 0,
         failed: 0,
     };
-    let mut marks = [0u8; DOCUMENT_LEN_MAX];
     while c.at < document.len() {
         let at = c.at;
         let fill = c.fill;
@@ -429,4 +438,36 @@ pub fn collect(document: &[u8], render: u32, numbers: &mut [u32], bytes: &mut [u
         }
     }
     Step::Next(c)
+}
+
+// The same for a short document, with few marks: each is zeroed before it is read.
+fn gather_short(document: &[u8], render: u32, numbers: &mut [u32], bytes: &mut [u8]) -> Step
+    requires { ⌜ (length (now document) ≤ 1024) × Roomy (now numbers) (now bytes) ⌝ }
+    ensures step { λ r. ⌜ stepOf (now (document .entry)) (now (numbers .exit)) (now (bytes .exit)) r ≡ collectAll render (now (document .entry)) (linksOf (now (document .entry))) ⌝ }
+    ensures held { λ r. ⌜ CollectedHeld (length (now (document .entry))) (now (numbers .exit)) r ⌝ }
+{
+    let mut marks = [0u8; SHORT_LEN_MAX];
+    gather(document, render, numbers, bytes, &mut marks)
+}
+
+// The same for a long one. The two are functions of their own so that no frame holds the marks of both.
+fn gather_long(document: &[u8], render: u32, numbers: &mut [u32], bytes: &mut [u8]) -> Step
+    requires { ⌜ (length (now document) ≤ 16384) × Roomy (now numbers) (now bytes) ⌝ }
+    ensures step { λ r. ⌜ stepOf (now (document .entry)) (now (numbers .exit)) (now (bytes .exit)) r ≡ collectAll render (now (document .entry)) (linksOf (now (document .entry))) ⌝ }
+    ensures held { λ r. ⌜ CollectedHeld (length (now (document .entry))) (now (numbers .exit)) r ⌝ }
+{
+    let mut marks = [0u8; DOCUMENT_LEN_MAX];
+    gather(document, render, numbers, bytes, &mut marks)
+}
+
+// The same for every document.
+pub fn collect(document: &[u8], render: u32, numbers: &mut [u32], bytes: &mut [u8]) -> Step
+    requires { ⌜ (length (now document) ≤ 16384) × Roomy (now numbers) (now bytes) ⌝ }
+    ensures step { λ r. ⌜ stepOf (now (document .entry)) (now (numbers .exit)) (now (bytes .exit)) r ≡ collectAll render (now (document .entry)) (linksOf (now (document .entry))) ⌝ }
+    ensures held { λ r. ⌜ CollectedHeld (length (now (document .entry))) (now (numbers .exit)) r ⌝ }
+{
+    if document.len() <= SHORT_LEN_MAX {
+        return gather_short(document, render, numbers, bytes);
+    }
+    gather_long(document, render, numbers, bytes)
 }
