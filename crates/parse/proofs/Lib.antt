@@ -6,6 +6,7 @@ pub mod FormsLaws
 pub mod BacktickLaws
 pub mod BarrenLaws
 pub mod BarredLaws
+pub mod LongLaws
 pub mod RoundLaws
 pub mod CalmLaws
 pub mod OnwardLaws

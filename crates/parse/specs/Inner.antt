@@ -3,12 +3,13 @@
 -- Assumes nothing.
 use Prim.Native.Nat.{ℕ, _+_, _-_, _<_, _≤_}
 use mathlib.Core.Path.{_≡_}
-use mathlib.Core.List.{List}
+use mathlib.Core.List.{List, [], _∷_}
 use mathlib.Core.Bool.{Bool, true, false}
 use mathlib.Core.Logic.{_⊎_}
 use lib.Dec.{ltb}
 use lib.ListN.{length, drop, getD}
 use Rattle.rst_bytes.specs.Escaped.{isStop, taking}
+use Rattle.rst_bytes.specs.Line.{isSpace}
 use Rattle.rst_bytes.specs.declared.Part.the-variants.{Taken, Refused}
 use Rattle.restructured_text.specs.declared.Span.{Span}
 use Rattle.restructured_text.specs.Delimited.{backtickedOf}
@@ -77,6 +78,20 @@ Holds m known marks s =
 -- what is told of blocks in a text by a number: where it is not 0, none begins at the front
 abbrev pub Free : ℕ → List ℕ → Type 0
 Free n s = 0 < n → NoBlock s
+
+-- a block may be long: of its line n bytes are passed, and it has more than 128, or the next line begins with a blank
+unfoldable pub longFrom : ℕ → List ℕ → Bool
+longFrom n [] = false
+longFrom n (b ∷ rest) =
+    elim (isLf b) [
+      | true ↦ isSpace (getD rest 0 0)
+      | false ↦ elim (ltb n 128) [ true ↦ longFrom (n + 1) rest | false ↦ true ]
+    ]
+
+-- what is told of blocks where one was read that is none, whether it may be long or not
+abbrev pub toldOf : Bool → ℕ
+toldOf true = 2
+toldOf false = 1
 
 -- what is known, with places counted from place n on, and what is told of blocks there; whatever is counted
 abbrev pub knownFrom : ℕ → ℕ → ℕ → Known → Known

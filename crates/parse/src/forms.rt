@@ -9,17 +9,22 @@ use restructured_text::inline::rst_text2label;
 use restructured_text::target::Definition;
 use restructured_text::target::rst_target;
 use restructured_text::target::starts_target;
+use rst_bytes::line::is_space;
 ghost use mathlib.Core.Path.{_≡_};
 ghost use mathlib.Core.Bool.{true, false};
 ghost use Prim.Native.Nat.{_+_, _≤_};
 ghost use lib.ListN.{length, take, drop, getD};
+ghost use Rattle.rst_bytes.specs.Line.{isSpace};
 ghost use Rattle.parse.specs.Link.{scannedOf, Ends, behind};
 ghost use Rattle.parse.specs.Forms.{tried, rst};
 ghost use Rattle.parse.specs.Scan.{consumedOf, followed};
-ghost use Rattle.parse.specs.Inner.{NoBlock, Barred, Free, FreeFrom};
+ghost use Rattle.parse.specs.Inner.{NoBlock, Barred, Free, FreeFrom, longFrom, toldOf};
 
-// How many bytes a link consumes, and what is told of blocks behind them: 0 where nothing is; else none begins there, and 2 where what
-// starts a target was read to learn that.
+// The longest line on which a block takes next to no time to read.
+const SHORT_LINE_LEN_MAX: usize = 128;
+
+// How many bytes a link consumes, and what is told of blocks behind them: 0 where nothing is; else none begins there, and 2 where a long
+// block was read to learn that.
 struct Reach {
     consumed: usize,
     free: usize,
@@ -75,6 +80,46 @@ pub fn may_begin(s: &[u8], n: usize, skipped: usize, marks: &[u8]) -> bool
     false
 }
 
+// Whether a blank stands at place i.
+fn is_blank_at(s: &[u8], i: usize) -> bool
+    ensures { λ r. ⌜ r ≡ isSpace (getD (now (s .entry)) i 0) ⌝ }
+{
+    if i < s.len() {
+        let b = s[i];
+        return is_space(b);
+    }
+    false
+}
+
+// Whether a block at the front may take long to read: its line has more than 128 bytes, or the next one begins with a blank and may be a
+// further line of it.
+pub fn is_long(s: &[u8]) -> bool
+    ensures { λ r. ⌜ r ≡ longFrom 0 (now (s .entry)) ⌝ }
+{
+    let mut i = 0;
+    while i < s.len() {
+        let b = s[i];
+        if b == b'\n' {
+            return is_blank_at(s, i + 1);
+        }
+        if SHORT_LINE_LEN_MAX <= i {
+            return true;
+        }
+        i = i + 1;
+    }
+    false
+}
+
+// What is told of blocks at the front, where one was read that is none.
+fn told(s: &[u8]) -> usize
+    ensures { λ r. ⌜ r ≡ toldOf (longFrom 0 (now (s .entry))) ⌝ }
+{
+    if is_long(s) {
+        return 2;
+    }
+    1
+}
+
 // How many bytes a link of n bytes consumes with the destination block that stands directly behind it, if one does. What stands
 // in the first n bytes of the scratch stays.
 fn with_unreported(s: &[u8], n: usize, skipped: usize, scratch: &mut [u8], marks: &[u8]) -> Reach
@@ -94,10 +139,10 @@ fn with_unreported(s: &[u8], n: usize, skipped: usize, scratch: &mut [u8], marks
                 consumed: n + m,
                 free: 0,
             },
-            Definition::NoDefinition => Reach {
-                consumed: n,
-                free: 2,
-            },
+            Definition::NoDefinition => {
+                let free = told(&s[n..]);
+                Reach { consumed: n, free }
+            }
             Definition::Unread => Reach {
                 consumed: n,
                 free: 0,

@@ -50,8 +50,8 @@ pub enum Scan {
 }
 
 // What is known from a place on: before `shut` no backtick begins a part that is closed, before `barren` none begins an embedded link,
-// before `blocks` no block begins. `failed` counts the blocks that were read and are none, up to 8, and is 9 once the places at which none
-// begins are marked: no claim is made of it.
+// before `blocks` no block begins. `failed` counts the long blocks that were read and are none, up to 8, and is 9 once the places at which
+// none begins are marked: no claim is made of it.
 pub struct Known {
     pub shut: usize,
     pub barren: usize,
@@ -91,7 +91,7 @@ pub fn take_link(s: &[u8], scratch: &mut [u8]) -> Scan
     next.scan
 }
 
-// Marks the places at which no block begins, once 8 blocks were read that are none. What was known is known then too.
+// Marks the places at which no block begins, once 8 long blocks were read that are none. What was known is known then too.
 fn marking(s: &[u8], marks: &mut [u8], known: Known) -> Known
     ensures { λ r. ⌜ ((i : ℕ) → Holds i known (now (marks .entry)) (now (s .entry)) → Holds i r (now (marks .exit)) (now (s .entry))) ⌝ }
 {

@@ -33,7 +33,7 @@ fn place_from(i: usize, n: usize) -> usize
     i - n
 }
 
-// One more of the blocks that were read and are none, up to 8; the number that stands for marks stays.
+// One more of the long blocks that were read and are none, up to 8; the number that stands for marks stays.
 pub fn counted(failed: usize) -> usize
     ensures { λ r. ⌜ failed ≤ r ⌝ }
 {

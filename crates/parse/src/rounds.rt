@@ -2,7 +2,7 @@
 //
 // A step takes the text and a place in it; one that tries parsers is also lent a scratch as long as the text. What an earlier round
 // learnt is handed on as places, so that the text before them is not read again and again; and with a link that no block begins behind it.
-// Once several blocks were read that are none, the places of the text are marked at which none begins: there none is read.
+// Once several long blocks were read that are none, the places of the text are marked at which none begins: there none is read.
 use crate::Known;
 use crate::Scan;
 use crate::backtick::unclosed;
@@ -11,6 +11,7 @@ use crate::barren::is_bracketed;
 use crate::forms::Answer;
 use crate::forms::block;
 use crate::forms::embedded;
+use crate::forms::is_long;
 use crate::forms::may_begin;
 use crate::forms::reference;
 use crate::onward::counted;
@@ -101,17 +102,20 @@ fn block_at(s: &[u8], i: usize, scratch: &mut [u8], read: bool) -> Scan
     Scan::NotFound
 }
 
-// What is known once no block was found: one that was read is none.
-fn missed(known: Known, read: bool) -> Known
+// What is known once no block was found at place i: one that was read is none, and counts if it is long.
+fn missed(s: &[u8], i: usize, read: bool, known: Known) -> Known
+    requires { ⌜ i ≤ length (now s) ⌝ }
     ensures { λ r. ⌜ ((i : ℕ) (marks s : List ℕ) → Holds i known marks s → Holds i r marks s) ⌝ }
 {
     if read {
-        return Known {
-            shut: known.shut,
-            barren: known.barren,
-            blocks: known.blocks,
-            failed: counted(known.failed),
-        };
+        if is_long(&s[i..]) {
+            return Known {
+                shut: known.shut,
+                barren: known.barren,
+                blocks: known.blocks,
+                failed: counted(known.failed),
+            };
+        }
     }
     known
 }
@@ -357,5 +361,5 @@ pub fn round(
     }
     let m = space0(&s[a..]);
     let spaced = starts(line, m);
-    text_round(s, a + m, scratch, marks, spaced, missed(known, read))
+    text_round(s, a + m, scratch, marks, spaced, missed(s, a, read, known))
 }

@@ -71,11 +71,20 @@ const APART: usize = 66;
 #[derive(Clone, Copy)]
 pub struct Head(Option<Token>, &'static str);
 
-/// Links before blocks whose names do not end, as many as are read before it is marked where no block begins.
-const UNNAMED: &str = "a_ .. _b a_ .. _b a_ .. _b a_ .. _b a_ .. _b a_ .. _b a_ .. _b a_ .. _b ";
+/// Links before blocks whose names do not end, as many as are read before it is marked where no block begins; with so many words behind
+/// them that each is long.
+const UNNAMED: &str = concat!(
+    "a_ .. _b a_ .. _b a_ .. _b a_ .. _b a_ .. _b a_ .. _b a_ .. _b a_ .. _b ",
+    "words words words words words words words words words words words ",
+    "words words words words words words words words words words words ",
+);
 
 /// The same with blocks that a wrong escape refuses, where one stands in the tail.
-const REFUSED: &str = "a_ __ x a_ __ x a_ __ x a_ __ x a_ __ x a_ __ x a_ __ x a_ __ x ";
+const REFUSED: &str = concat!(
+    "a_ __ x a_ __ x a_ __ x a_ __ x a_ __ x a_ __ x a_ __ x a_ __ x ",
+    "words words words words words words words words words words words ",
+    "words words words words words words words words words words words ",
+);
 
 pub const HEADS: [Head; 17] = [
     Head(None, ""),

@@ -57,9 +57,12 @@ const REFUSED: &[&str] = &[
     "`a <", "b", "\\_", "\\ ", "_", ">`_", ">`__", "__ ", ".. _c: ", "`c\\_`_", "\n   ",
 ];
 
-/// Eight blocks that begin like a target and are none: so many are read before it is
-/// marked where no target starts.
-const NO_TARGETS: &str = ".. _b\n.. _b\n.. _b\n.. _b\n.. _b\n.. _b\n.. _b\n.. _b\n";
+/// Eight blocks that begin like a target and are none, with a further line each: so
+/// many are read before it is marked where no target starts.
+const NO_TARGETS: &str = concat!(
+    ".. _b\n   c\n.. _b\n   c\n.. _b\n   c\n.. _b\n   c\n",
+    ".. _b\n   c\n.. _b\n   c\n.. _b\n   c\n.. _b\n   c\n",
+);
 
 /// Links before what starts a target, with further lines.
 const HEADERS: &[&str] = &[

@@ -41,14 +41,26 @@ enum-told c = search needs
 enum-known-m : tie.Need-enum-known-m
 enum-known-m c = search needs
 
-add-t18 : tie.Need-add-t18
-add-t18 c = let s = c .before .before .before .before .before .before .before .before .before .before .before .before .before in
+add-t19 : tie.Need-add-t19
+add-t19 c = let s = c .before .before .before .before .before .before .before .before .before .before .before .before .before in
     let x = c .before .before .before .before .before .rst-target in
     let e = unreported-answered (s .args .s .now) (s .args .n) (s .args .scratch .now) (x .last .1 .0) (x .result) _ (s .pre .0) (x .ensures .0) (x .ensures .1 .0) (c .before .m .given .1) in
     omega (arith, unreported-le (s .args .s .now) (s .args .n) _ _ _ (s .pre .0 .0) (e .1))
 
 enum-told-2 : tie.Need-enum-told-2
 enum-told-2 c = search needs
+
+sub-told : tie.Need-sub-told
+sub-told c = search needs
+
+part-told-start : tie.Need-part-told-start
+part-told-start c = search needs
+
+part-told-end : tie.Need-part-told-end
+part-told-end c = search needs
+
+told-requires : tie.Need-told-requires
+told-requires c κs = search needs
 
 enum-told-3 : tie.Need-enum-told-3
 enum-told-3 c = search needs
@@ -75,9 +87,9 @@ same-length-3 : tie.Need-same-length-3
 same-length-3 c = search needs
 
 returns-3 : tie.Need-returns-3
-returns-3 c = let s = c .before .before .before .before .before .before .before .before .before .before .before .before in
-    let x = c .before .before .before .before .rst-target in
-    let e = unreported-answered (s .args .s .now) (s .args .n) (s .args .scratch .now) (x .last .1 .0) (x .result) _ (s .pre .0) (x .ensures .0) (x .ensures .1 .0) (c .enum-told2 .given .1) in
+returns-3 c = let s = c .before .before .before .before .before .before .before .before .before .before .before .before .before .before in
+    let x = c .before .before .before .before .before .before .rst-target in
+    let e = unreported-answered (s .args .s .now) (s .args .n) (s .args .scratch .now) (x .last .1 .0) (x .result) _ (s .pre .0) (x .ensures .0) (x .ensures .1 .0) (c .before .before .enum-told2 .given .1) in
     (unreported-none (s .args .s .now) (s .args .n) (e .1), (front-kept (s .args .n) (s .args .scratch .now) (x .last .1 .0) (omega (arith, s .pre .0)), λ h. no-block (drop (s .args .n) (s .args .s .now)) (e .0) (e .1)))
 
 same-length-4 : tie.Need-same-length-4
@@ -108,8 +120,12 @@ with-unreported-spec =
     rst-target-requires
     enum-told
     enum-known-m
-    add-t18
+    add-t19
     enum-told-2
+    sub-told
+    part-told-start
+    part-told-end
+    told-requires
     enum-told-3
     same-length
     returns

@@ -103,7 +103,9 @@ add-text-round c =
     omega (arith, blanks-le (w .s .now) (w .i + c .before .before .before .before .before .before .before .before .before .before .before .newlines .result) _ (lfs-le (w .s .now) (w .i) _ (c .before .before .before .before .before .before .before .before .before .before .before .before .before .before .before .before .pre .0 .0) (c .before .before .before .before .before .before .before .before .before .before .before .newlines .ensures)) (c .before .space0 .ensures))
 
 missed-requires : tie.Need-missed-requires
-missed-requires c κs = search needs
+missed-requires c κs =
+    let w = c .before .before .before .before .before .before .before .before .before .before .before .before .before .before .before .before .before .args in
+    lfs-le (w .s .now) (w .i) _ (c .before .before .before .before .before .before .before .before .before .before .before .before .before .before .before .before .before .pre .0 .0) (c .before .before .before .before .before .before .before .before .before .before .before .before .newlines .ensures)
 
 text-round-requires : tie.Need-text-round-requires
 text-round-requires c κs =
