@@ -23,8 +23,15 @@ ghost use Rattle.parse.specs.Inner.{NoBlock, Barred, Free, FreeFrom, lon
 // The longest line on which a block takes next to no time to read.
 const SHORT_LINE_LEN_MAX: usize = 128;
 
-// How many bytes a link consumes, and what is told of blocks behind them: 0 where nothing is; else none begins there, and 2 where a long
-// block was read to learn that.
+// What is told of blocks behind a link: nothing.
+pub const UNTOLD: usize = 0;
+// None begins there.
+pub const NONE_BEGINS: usize = 1;
+// None begins there, and a long one was read to learn that.
+pub const LONG_READ: usize = 2;
+
+// How many bytes a link consumes, and which of these is told of blocks behind them. It is a number since a bool beside one makes a struct
+// slow to hand on.
 struct Reach {
     consumed: usize,
     free: usize,
@@ -115,9 +122,9 @@ fn told(s: &[u8]) -> usize
     ensures { λ r. ⌜ r ≡ toldOf (longFrom 0 (now (s .entry))) ⌝ }
 {
     if is_long(s) {
-        return 2;
+        return LONG_READ;
     }
-    1
+    NONE_BEGINS
 }
 
 // How many bytes a link of n bytes consumes with the destination block that stands directly behind it, if one does. What stands
@@ -133,11 +140,11 @@ fn with_unreported(s: &[u8], n: usize, skipped: usize, scratch: &mut [u8], marks
         return match rst_target(&s[n..], &mut scratch[n..]) {
             Definition::Alias(_, _, _) => Reach {
                 consumed: n,
-                free: 0,
+                free: UNTOLD,
             },
             Definition::Destination(_, _, m) => Reach {
                 consumed: n + m,
-                free: 0,
+                free: UNTOLD,
             },
             Definition::NoDefinition => {
                 let free = told(&s[n..]);
@@ -145,13 +152,13 @@ fn with_unreported(s: &[u8], n: usize, skipped: usize, scratch: &mut [u8], marks
             }
             Definition::Unread => Reach {
                 consumed: n,
-                free: 0,
+                free: UNTOLD,
             },
         };
     }
     Reach {
         consumed: n,
-        free: 1,
+        free: NONE_BEGINS,
     }
 }
 
@@ -172,7 +179,7 @@ pub fn embedded(s: &[u8], skipped: usize, scratch: &mut [u8], marks: &[u8]) -> A
         Strings::NotFound => {}
         Strings::NoRoom => {
             let scan = Scan::NoRoom;
-            return Answer { scan, free: 0 };
+            return Answer { scan, free: UNTOLD };
         }
     }
     match rst_text_label2dest(s, scratch) {
@@ -183,11 +190,11 @@ pub fn embedded(s: &[u8], skipped: usize, scratch: &mut [u8], marks: &[u8]) -> A
         }
         Strings::NotFound => Answer {
             scan: Scan::NotFound,
-            free: 0,
+            free: UNTOLD,
         },
         Strings::NoRoom => Answer {
             scan: Scan::NoRoom,
-            free: 0,
+            free: UNTOLD,
         },
     }
 }
@@ -208,11 +215,11 @@ pub fn reference(s: &[u8], skipped: usize, scratch: &mut [u8], marks: &[u8]) -> 
         }
         Strings::NotFound => Answer {
             scan: Scan::NotFound,
-            free: 0,
+            free: UNTOLD,
         },
         Strings::NoRoom => Answer {
             scan: Scan::NoRoom,
-            free: 0,
+            free: UNTOLD,
         },
     }
 }

@@ -13,6 +13,7 @@ mod rounds;
 use crate::buffers::hand_over;
 use crate::buffers::is_place;
 use crate::calm::calm;
+use crate::forms::UNTOLD;
 use crate::onward::next_of;
 use crate::rounds::Step;
 use crate::rounds::round;
@@ -50,14 +51,18 @@ pub enum Scan {
 }
 
 // What is known from a place on: before `shut` no backtick begins a part that is closed, before `barren` none begins an embedded link,
-// before `blocks` no block begins. `failed` counts the long blocks that were read and are none, up to 8, and is 9 once the places at which
-// none begins are marked: no claim is made of it.
+// before `blocks` no block begins. `failed` counts the long blocks that were read and are none: no claim is made of it.
 pub struct Known {
     pub shut: usize,
     pub barren: usize,
     pub blocks: usize,
     pub failed: usize,
 }
+
+// How many long blocks are read that are none before the places are marked at which none begins; no more are counted.
+pub const FAILED_MAX: usize = 8;
+// What `failed` is once they are marked.
+pub const MARKED: usize = 9;
 
 // A scan's answer, and what is known from behind the link that was found, if one was.
 pub struct Next {
@@ -91,17 +96,17 @@ pub fn take_link(s: &[u8], scratch: &mut [u8]) -> Scan
     next.scan
 }
 
-// Marks the places at which no block begins, once 8 long blocks were read that are none. What was known is known then too.
+// Marks the places at which no block begins, once so many long blocks were read that are none. What was known is known then too.
 fn marking(s: &[u8], marks: &mut [u8], known: Known) -> Known
     ensures { λ r. ⌜ ((i : ℕ) → Holds i known (now (marks .entry)) (now (s .entry)) → Holds i r (now (marks .exit)) (now (s .entry))) ⌝ }
 {
-    if known.failed == 8 {
+    if known.failed == FAILED_MAX {
         mark(s, marks);
         return Known {
             shut: known.shut,
             barren: known.barren,
             blocks: known.blocks,
-            failed: 9,
+            failed: MARKED,
         };
     }
     known
@@ -117,7 +122,7 @@ pub fn next_link(s: &[u8], scratch: &mut [u8], marks: &mut [u8], known: Known) -
     ensures known { λ r. ⌜ NextHolds (now (s .entry)) (now (marks .exit)) r ⌝ }
 {
     if scratch.len() < s.len() {
-        return next_of(s, Scan::NoRoom, known, 0, 0);
+        return next_of(s, Scan::NoRoom, known, UNTOLD, 0);
     }
     let mut i = 0;
     let mut input_start = true;
@@ -145,7 +150,7 @@ pub fn next_link(s: &[u8], scratch: &mut [u8], marks: &mut [u8], known: Known) -
             }
         }
     }
-    next_of(s, Scan::NotFound, known, 0, 0)
+    next_of(s, Scan::NotFound, known, UNTOLD, 0)
 }
 
 // The first link of the document from a place on; its strings are written to the front of the two buffers, or all of this is

@@ -1,8 +1,11 @@
 // What a scan hands on to the next, which starts behind the link and counts places from there.
+use crate::FAILED_MAX;
 use crate::Known;
 use crate::Link;
 use crate::Next;
 use crate::Scan;
+use crate::forms::LONG_READ;
+use crate::forms::UNTOLD;
 ghost use mathlib.Core.Path.{_≡_};
 ghost use mathlib.Core.List.{List};
 ghost use Prim.Native.Nat.{ℕ, _-_, _≤_};
@@ -33,11 +36,11 @@ fn place_from(i: usize, n: usize) -> usize
     i - n
 }
 
-// One more of the long blocks that were read and are none, up to 8; the number that stands for marks stays.
+// One more of the long blocks that were read and are none, as far as they are counted; the number that stands for marks stays.
 pub fn counted(failed: usize) -> usize
     ensures { λ r. ⌜ failed ≤ r ⌝ }
 {
-    if failed < 8 {
+    if failed < FAILED_MAX {
         return failed + 1;
     }
     failed
@@ -50,10 +53,10 @@ fn known_from(known: Known, n: usize, free: usize, failed: usize) -> Known
     let shut = place_from(known.shut, n);
     let barren = place_from(known.barren, n);
     let mut failed = failed;
-    if free == 2 {
+    if free == LONG_READ {
         failed = counted(failed);
     }
-    if 0 < free {
+    if UNTOLD < free {
         return Known {
             shut,
             barren,

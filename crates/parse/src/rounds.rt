@@ -9,6 +9,7 @@ use crate::backtick::unclosed;
 use crate::barren::barren;
 use crate::barren::is_bracketed;
 use crate::forms::Answer;
+use crate::forms::UNTOLD;
 use crate::forms::block;
 use crate::forms::embedded;
 use crate::forms::is_long;
@@ -105,7 +106,7 @@ fn block_at(s: &[u8], i: usize, scratch: &mut [u8], read: bool) -> Scan
 // What is known once no block was found at place i: one that was read is none, and counts if it is long.
 fn missed(s: &[u8], i: usize, read: bool, known: Known) -> Known
     requires { ⌜ i ≤ length (now s) ⌝ }
-    ensures { λ r. ⌜ ((i : ℕ) (marks s : List ℕ) → Holds i known marks s → Holds i r marks s) ⌝ }
+    ensures { λ r. ⌜ ((m : ℕ) (marks text : List ℕ) → Holds m known marks text → Holds m r marks text) ⌝ }
 {
     if read {
         if is_long(&s[i..]) {
@@ -145,7 +146,7 @@ fn reference_at(s: &[u8], i: usize, scratch: &mut [u8], marks: &[u8], spaced: bo
     }
     Answer {
         scan: Scan::NotFound,
-        free: 0,
+        free: UNTOLD,
     }
 }
 
@@ -163,7 +164,7 @@ fn embedded_at(s: &[u8], i: usize, scratch: &mut [u8], marks: &[u8]) -> Answer
     }
     Answer {
         scan: Scan::NotFound,
-        free: 0,
+        free: UNTOLD,
     }
 }
 
@@ -317,7 +318,7 @@ fn text_round(
     ensures known { λ r. ⌜ StepHolds (now (s .entry)) (now (marks .entry)) r ⌝ }
 {
     if s.len() <= i {
-        return Step::Stops(Scan::NotFound, 0, 0);
+        return Step::Stops(Scan::NotFound, UNTOLD, 0);
     }
     if may_embed(s, i, known.barren) {
         return backtick_round(s, i, scratch, marks, spaced, known);
@@ -352,11 +353,11 @@ pub fn round(
     let read = is_read(s, a, line, marks, known);
     match block_at(s, a, scratch, read) {
         Scan::Found(x) => {
-            return Step::Stops(Scan::Found(x), 0, known.failed);
+            return Step::Stops(Scan::Found(x), UNTOLD, known.failed);
         }
         Scan::NotFound => {}
         Scan::NoRoom => {
-            return Step::Stops(Scan::NoRoom, 0, 0);
+            return Step::Stops(Scan::NoRoom, UNTOLD, 0);
         }
     }
     let m = space0(&s[a..]);
