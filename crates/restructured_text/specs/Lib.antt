@@ -41,7 +41,7 @@
 --   step by step what a definition says by the tests it makes, for places without targets: BlockLaws start-taken, start-refused, start-is,
 --                block-none, block-no-line, block-taken: a block's start and first line; cut-none, further-none, lines-end, lines-further: its
 --                further lines; DelimitedLaws delimited-taken, delimited-none, delimited-unclosed, delimited-refused: a part between tags;
---                LabelLaws raw-quoted, raw-word, word-one, word-none, simple-named, simple-none, simple-empty, simple-long: a simple label;
+--                LabelLaws raw-quoted, raw-word, word-one, word-two, word-none, simple-named, simple-none, simple-empty, simple-long: a simple label;
 --                TargetLaws name-quoted, name-plain, plain-named, plain-none, parse-none: a name; raw-is, raw-all: a raw target;
 --                named-none, named-refused, anonymous-refuses: a target that is none; TransformLaws kept-byte, kept-alone, kept-pair,
 --                kept-wrong: whether a destination is refused (isRefused of Inner), by its first bytes; destination-dead: then the transform refuses it

@@ -28,7 +28,7 @@
 --                      space1-le, multispace0-le; TagLaws starts-le
 --   progress           DomainLaws char-within; EscapedLaws taken-pos; LineLaws newline-pos, line-ending-pos, space1-pos
 --   what follows       DomainLaws char-inside, inside-at: no character starts inside another; EscapedLaws taken-stop, taking-stop: a part
---                      ends before a stop byte, stop-is: which is one of two, taken-from, taken-back: it is the same counted from any number;
+--                      ends before a stop byte, stop-is: which is one of two, taken-from, taken-later, taken-back: it is the same counted from any number;
 --                      taking-front: it is taken as a whole; taking-over, escaped-over: what stands behind a text that is taken as a
 --                      whole is read as if it stood alone, taking-fewer: such a text is taken with fewer stop bytes too; cut-front,
 --                      cut-rest: so are the two parts, up to an escaped stop byte and behind it; TrimLaws trim-behind: what is trimmed

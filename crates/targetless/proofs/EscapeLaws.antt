@@ -4,14 +4,13 @@
 use Prim.Native.Nat.{ℕ, _+_, _<_, _≤_}
 use native.Mathlib.Omega.{arith}
 use mathlib.Core.Path.{_≡_, refl, sym, ap, subst, _∙_}
-use mathlib.Core.List.{List, [], _∷_}
+use mathlib.Core.List.{List}
 use mathlib.Core.Bool.{Bool, true, false, true≢false}
 use mathlib.Core.Logic.{⊎-elim}
 use lib.Dec.{eqb}
 use lib.ListN.{length, getD, drop}
 use borrow.Author.Tests.{eqb-true}
 use Rattle.rst_bytes.specs.Escaped.{isEscapable}
-use Rattle.rst_bytes.specs.Tests.{oneOf}
 use Rattle.rst_bytes.specs.Word.{isAsciiWord}
 use Rattle.rst_bytes.proofs.Lists.{drop-next}
 use Rattle.rst_bytes.proofs.TestLaws.{or-cases}

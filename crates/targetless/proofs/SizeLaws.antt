@@ -7,16 +7,15 @@ use native.Mathlib.Nat.{suc-mul, zero-mul, mul-comm, le-div-iff-mul-le}
 use mathlib.Core.Path.{_≡_, refl, sym, ap, subst, subst⁻¹, _∙_}
 use mathlib.Core.List.{List, [], _∷_, _++_}
 use mathlib.Core.Bool.{Bool, true, false, _||_, false≢true}
-use mathlib.Core.Logic.{⊎-elim}
 use lib.Dec.{eqb}
 use lib.ListN.{length, getD, drop, length-drop, length-append}
 use borrow.Author.Tests.{eq-eqb, ne-eqb, lt-ltb}
-use Rattle.rst_bytes.specs.Escaped.{isEscapable, isStop, taking}
-use Rattle.rst_bytes.specs.Line.{isSpace, notLineEndingOf}
+use Rattle.rst_bytes.specs.Escaped.{isEscapable, taking}
+use Rattle.rst_bytes.specs.Line.{notLineEndingOf}
 use Rattle.rst_bytes.specs.Tag.{startsWith}
 use Rattle.rst_bytes.specs.declared.Part.{Part}
 use Rattle.rst_bytes.specs.declared.Part.the-variants.{Taken, Refused}
-use Rattle.rst_bytes.proofs.Lists.{drop-next, drop-two, drop-last}
+use Rattle.rst_bytes.proofs.Lists.{drop-next, drop-last}
 use Rattle.rst_bytes.proofs.EscapedLaws.{refused-taken, taken-is, taken-from, taken-later, taken-back}
 use Rattle.rst_bytes.proofs.TagLaws.{starts-append}
 use Rattle.rst_bytes.proofs.LineLaws.{ending-none, not-line-ending-le}

@@ -7,7 +7,7 @@ use mathlib.Core.Path.{_≡_, refl, sym, ap, _∙_}
 use mathlib.Core.List.{List, [], _∷_, _++_}
 use mathlib.Core.Bool.{Bool, true, false, _||_, true≢false}
 use lib.Dec.{eqb}
-use lib.ListN.{length, getD, drop, take, length-drop, length-append}
+use lib.ListN.{length, getD, drop, take, length-append}
 use lib.Seq.{drop-drop}
 use borrow.Author.Tests.{ne-eqb}
 use Rattle.rst_bytes.specs.Line.{startsLf, lineFrom, lineEndingOf, notLineEndingOf}
@@ -15,10 +15,10 @@ use Rattle.rst_bytes.specs.Tag.{startsWith}
 use Rattle.rst_bytes.specs.declared.Part.{Part}
 use Rattle.rst_bytes.specs.declared.Part.the-variants.{Taken, Refused}
 use Rattle.rst_bytes.proofs.Lists.{drop-next, drop-two, drop-last}
-use Rattle.rst_bytes.proofs.TestLaws.{picks-second, by-test, by-test₂, neither}
+use Rattle.rst_bytes.proofs.TestLaws.{by-test, by-test₂, neither}
 use Rattle.rst_bytes.proofs.EscapedLaws.{refused-taken, taken-is}
 use Rattle.rst_bytes.proofs.LineLaws.{ending-lf, ending-crlf}
-use Rattle.rst_bytes.proofs.TagLaws.{starts-le, starts-append}
+use Rattle.rst_bytes.proofs.TagLaws.{starts-append}
 use Rattle.restructured_text.specs.declared.block.Line.{Line}
 use Rattle.restructured_text.specs.declared.block.Line.the-variants.{Further, End}
 use Rattle.restructured_text.specs.Block.{three, cutOf, lineAt, furtherOf, Joining, linesOf}
@@ -135,10 +135,6 @@ text-further indent s a m e =
     ap (λ (j : Joining). j .text) (lines-further indent s a m e)
     ∙ ap (λ (l : List ℕ). 0x20 ∷ (take m (drop a s) ++ linesOf indent 0 l .text)) (sym (drop-drop m a s))
 
--- the same at a place
-pub text-further-at : (indent s : List ℕ) (i a m : ℕ) → furtherOf indent (drop i s) ≡ Further a m → joinedOf indent 0 (drop i s) ≡ 0x20 ∷ joinedOf indent m (drop (i + a) s)
-text-further-at indent s i a m e = text-further indent (drop i s) a m e ∙ ap (λ (l : List ℕ). 0x20 ∷ joinedOf indent m l) (drop-drop a i s)
-
 -- The further line, by its first bytes.
 
 -- behind the a bytes that are cut
@@ -252,15 +248,3 @@ module _ (s : List ℕ) (i : ℕ) (h : i + 1 < length s) (e : getD s i 0 ≡ 13)
 -- LF at a place
 pub lf-first : (s : List ℕ) (i : ℕ) → i < length s → getD s i 0 ≡ 10 → drop i s ≡ 10 ∷ drop (i + 1) s
 lf-first s i h e = drop-next s i h ∙ ap (λ (b : ℕ). b ∷ drop (i + 1) s) e
-
--- A further line is as long as the indent and three spaces, at least.
-pub further-long : (indent s : List ℕ) → isFurther (furtherOf indent s) ≡ true → length indent + 3 ≤ length s
-further-long indent s e = go (lineEndingOf s) refl
-  where
-    test : (k : ℕ) → lineEndingOf s ≡ Taken k → (x : Bool) → startsWith (indent ++ three) (drop k s) ≡ x → length indent + 3 ≤ length s
-    test k f true g = omega (arith, starts-le (indent ++ three) (drop k s) g, length-append indent three, length-drop k s)
-    test k f false g = absurd (true≢false (sym e ∙ ap isFurther (further-at indent s k f ∙ picks-second _ _ _ g)))
-
-    go : (x : Part) → lineEndingOf s ≡ x → length indent + 3 ≤ length s
-    go (Taken k) f = test k f _ refl
-    go Refused f = absurd (true≢false (sym e ∙ ap isFurther (further-none-at indent s f)))

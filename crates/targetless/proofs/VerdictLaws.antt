@@ -29,7 +29,7 @@ use Rattle.restructured_text.specs.Block.{three, lineAt, furtherOf}
 use Rattle.targetless.specs.declared.Verdict.{Verdict}
 use Rattle.targetless.specs.Verdict.{joinedOf, isFurther, Blank, bitAt, isLone, everything, nothing, sureOf, bothOf, eitherOf, lessOf, upToOf, beyondOf, loneOf, overOf, judgedOf, Tells, run, endsLine, escapeOf, Follows, Shared}
 use Rattle.targetless.proofs.BitLaws.{bit-is, bit-both, bit-either, bit-small, bit-none, bit-ones, bit-beyond}
-use Rattle.targetless.proofs.TextLaws.{line-behind, line-behind-refused, line-here, line-stops, text-end, text-further, further-lf-other, further-lf-starts, further-long, further-none-at, crlf-further, crlf-text, crlf-here, crlf-next, crlf-first, lf-first}
+use Rattle.targetless.proofs.TextLaws.{line-behind, line-behind-refused, line-here, line-stops, text-end, text-further, further-lf-other, further-lf-starts, further-none-at, crlf-further, crlf-text, crlf-here, crlf-next, crlf-first, lf-first}
 
 -- What a verdict says where a further line follows.
 judged-cases : (v : Verdict) (k : ℕ) → judgedOf v true k ≡ true → ((k < 63) × (bitAt (v .short) (k + 1) ≡ true)) ⊎ ((63 ≤ k) × (k < 127) × (bitAt (v .long) (k - 63) ≡ true))
@@ -172,17 +172,6 @@ tells-either f g a b s t u indent n blank e j =
     (λ w. ap (λ (x : Bool). x || g (joinedOf indent n s)) (t indent n blank e w))
     (λ w. or-second (f (joinedOf indent n s)) (g (joinedOf indent n s)) (u indent n blank e w))
     (judged-either a b (isFurther (furtherOf indent (drop n s))) (length indent) j)
-
--- what is told where a further line follows alone
-pub tells-lone :
-    (f : List ℕ → Bool) (v : Verdict) (lone : Bool) (s : List ℕ) → Tells f v s
-    → ((indent : List ℕ) (n : ℕ) → Blank indent → notLineEndingOf s ≡ Taken n → isFurther (furtherOf indent (drop n s)) ≡ false → lone ≡ true → f (joinedOf indent n s) ≡ true)
-    → Tells f (loneOf v lone) s
-tells-lone f v lone s t h indent n blank e = go (isFurther (furtherOf indent (drop n s))) refl
-  where
-    go : (x : Bool) → isFurther (furtherOf indent (drop n s)) ≡ x → judgedOf (loneOf v lone) x (length indent) ≡ true → f (joinedOf indent n s) ≡ true
-    go true g j = t indent n blank e (ap (λ (x : Bool). judgedOf v x (length indent)) g ∙ judged-lone v lone (length indent) j)
-    go false g j = h indent n blank e g (lone-is v lone (length indent) j)
 
 -- A byte that ends no line.
 module _ (f g : List ℕ → Bool) (v : Verdict) (b : ℕ) (l : List ℕ) (e : endsLine b ≡ false) where

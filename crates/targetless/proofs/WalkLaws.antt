@@ -100,13 +100,10 @@ ended-dead s i v e t =
 
 -- The target behind the blanks at a place: it is the place's own if no blank stands there, ..
 module _ (s : List ℕ) (i : ℕ) (v : Verdict) (h : i < length s) where
-  front-own : (u : Verdict) → isSpace (getD s i 0) ≡ false → Tells isDead u (drop i s) → Tells isDead u (drop (i + space0Of (drop i s)) s)
-  front-own u e t =
+  front-here : (u : Verdict) → isSpace (getD s i 0) ≡ false → Tells isDead u (drop i s) → Tells isDead u (drop (i + space0Of (drop i s)) s)
+  front-here u e t =
       let z : i ≡ i + space0Of (drop i s) = omega (arith, ap space0Of (drop-next s i h) ∙ blanks-none (getD s i 0) (drop (i + 1) s) e) in
       subst (λ (k : ℕ). Tells isDead u (drop k s)) z t
-
-  front-here : isSpace (getD s i 0) ≡ false → Tells isDead v (drop i s) → Tells isDead v (drop (i + space0Of (drop i s)) s)
-  front-here e t = front-own v e t
 
   -- .. and else that of the next place
   front-blank : isSpace (getD s i 0) ≡ true → Tells isDead v (drop (i + 1 + space0Of (drop (i + 1) s)) s) → Tells isDead v (drop (i + space0Of (drop i s)) s)
@@ -117,7 +114,7 @@ module _ (s : List ℕ) (i : ℕ) (v : Verdict) (h : i < length s) where
   pub front-by :
       (u : Verdict) → Tells isDead v (drop (i + 1 + space0Of (drop (i + 1) s)) s) → Tells isDead u (drop i s)
       → Tells isDead (frontOf (getD s i 0) v u) (drop (i + space0Of (drop i s)) s)
-  front-by u t k = by-test (λ (x : Verdict). Tells isDead x (drop (i + space0Of (drop i s)) s)) (isSpace (getD s i 0)) v u (λ e. front-blank e t) (λ e. front-own u e k)
+  front-by u t k = by-test (λ (x : Verdict). Tells isDead x (drop (i + space0Of (drop i s)) s)) (isSpace (getD s i 0)) v u (λ e. front-blank e t) (λ e. front-here u e k)
 
 -- LF and CR are no blanks
 lf-other : (b : ℕ) → b ≡ 10 → isSpace b ≡ false
@@ -193,7 +190,7 @@ module _ (s : List ℕ) (i : ℕ) (w : Walk) (a : State) (h : i < length s) (e :
         near,
         told .0,
         subst⁻¹ (λ (x : Verdict). Tells lineStop x (drop i s)) j (line-front s i h e (line .0) (line .1) (w .next) k (told .5) same (a .destination) (w .front) (near .0) (told .3)),
-        front-here s i (a .target) h (lf-other (getD s i 0) e) (near .5),
+        front-here s i (a .target) h (a .target) (lf-other (getD s i 0) e) (near .5),
         omega arith,
         follows-lf s i h e (line .0) (line .1),
         λ j. absurd (false≢true j),
@@ -221,7 +218,7 @@ module _ (s : List ℕ) (i : ℕ) (w : Walk) (told : Walked w (i + 1) s) where
           ),
           near,
           tells-cr s i h e f lineStop (w .stop) (told .2),
-          front-here s i (w .front) (omega arith) (cr-other (getD s i 0) e)
+          front-here s i (w .front) (omega arith) (w .front) (cr-other (getD s i 0) e)
               (tells-cr s i h e f isDead (w .front) (subst (λ (k : ℕ). Tells isDead (w .front) (drop k s)) front-lf (told .3))),
           told .4,
           follows-cr s i h e f (w .next) s (told .5),

@@ -13,7 +13,6 @@ use Rattle.parse.specs.Inner.{Holds}
 use Rattle.parse.proofs.OnwardLaws.{holds-nothing}
 use Rattle.rst_bytes.proofs.Lists.{part-from}
 use borrow.Author.Needs.{needs}
-use borrow.Rule.Slice.PartMut.{same-len-mid}
 use lib.ListN.{length, take, drop}
 use native.Mathlib.Omega.{arith}
 use mathlib.Core.List.{List}

@@ -1,7 +1,6 @@
 -- `line::at_lf` meets its contract: before a line that is refused none follows, and else each run goes on over the line's end.
 -- Assumes nothing.
 use Prim.Native.Nat.{_+_}
-use mathlib.Core.Path.{sym, _∙_}
 use native.Mathlib.Omega.{arith}
 use lib.ListN.{length-drop}
 use Rattle.targetless.proofs.WalkLaws.{walked-lf-refused, walked-lf}

@@ -1,12 +1,11 @@
 -- `line::line_stop` meets its contract: its tests are those of `stopOf`, for the blanks that are counted.
 -- Assumes nothing.
-use mathlib.Core.Path.{_≡_, sym, ap, subst, _∙_}
-use mathlib.Core.Bool.{Bool, true}
-use lib.ListN.{drop}
+use mathlib.Core.Path.{sym, ap, _∙_}
+use mathlib.Core.Bool.{true}
 use Rattle.rst_bytes.specs.Line.{space0Of}
 use Rattle.rst_bytes.proofs.Lists.{part-from}
 use Rattle.targetless.specs.declared.Verdict.{Verdict}
-use Rattle.targetless.specs.Verdict.{bothOf, upToOf, loneOf, judgedOf}
+use Rattle.targetless.specs.Verdict.{bothOf, loneOf}
 use Rattle.targetless.specs.Walk.{stopOf}
 use Rattle.targetless.proofs.LeafLaws.{stop-few, stop-front, stop-before}
 use borrow.Author.Needs.{needs}

@@ -1,7 +1,7 @@
 -- `runs::escape_state` meets its contract: each way is one of what may stand behind the backslash.
 -- Assumes nothing.
 use Prim.Native.Nat.{_+_}
-use mathlib.Core.Path.{_≡_, sym, ap, subst, subst⁻¹, _∙_}
+use mathlib.Core.Path.{sym, ap, subst, subst⁻¹, _∙_}
 use native.Mathlib.Omega.{arith}
 use lib.ListN.{drop, length-drop}
 use Rattle.targetless.specs.declared.State.{State}

@@ -1,10 +1,9 @@
 -- `runs::target_at` meets its contract: a target that begins no label is a destination; one that begins with a backtick is a label or a destination.
 -- Assumes nothing.
-use mathlib.Core.Path.{sym, ap, subst⁻¹, _∙_}
-use native.Mathlib.Omega.{arith}
+use mathlib.Core.Path.{sym, subst⁻¹, _∙_}
 use lib.ListN.{drop}
 use Rattle.targetless.specs.declared.Verdict.{Verdict}
-use Rattle.targetless.specs.Verdict.{bothOf, Tells}
+use Rattle.targetless.specs.Verdict.{Tells}
 use Rattle.targetless.specs.Runs.{isDead}
 use Rattle.targetless.proofs.StateLaws.{tells-none, target-two, target-ticked, target-other}
 use borrow.Author.Needs.{needs}
