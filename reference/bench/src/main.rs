@@ -11,6 +11,7 @@
 //! bytes (4096), and draws further ones for so many minutes (0), from a seed (1); with
 //! TEXT, of what stands between heads and tails only that without it.
 
+mod blocks;
 mod document;
 mod documents;
 mod inputs;

@@ -1,8 +1,10 @@
 //! Looks for documents on which the document call takes long. All units of one to
 //! three tokens are tried with heads and tails in short documents, one call each; of
 //! each kind of body the slowest is kept. The slowest of these are called once at
-//! full length, and the slowest of them timed, in turn with plain prose.
+//! full length, and the slowest of them timed, in turn with plain prose. Units of one
+//! and two tokens are tried at full length too, behind links before blocks.
 
+use crate::blocks;
 use crate::documents::INPUTS;
 use crate::named::{LENGTHS, WAYS, make};
 use crate::shapes::{Body, HEADS, PIECES, SHORT_HEADS, Shape, TAILS, TOKENS, joined};
@@ -115,6 +117,29 @@ impl Search {
         let head = random.below(HEADS.len());
         let tail = random.below(TAILS.len());
         self.try_body(&Body { unit, piece }, &[head], &[tail]);
+    }
+
+    /// Links before blocks that are none, at full length: the slowest ones.
+    fn blocks(&mut self) -> Vec<(String, Vec<u8>)> {
+        let heads = blocks::heads();
+        let tails = blocks::tails();
+        let mut slowest = Vec::new();
+        let mut doc = Vec::new();
+        for unit in blocks::units() {
+            for (name, head) in &heads {
+                for tail in &tails {
+                    blocks::make(head, &unit, tail, &mut doc);
+                    let seconds = self.timed(&doc);
+                    slowest.push((seconds, (blocks::describe(name, &unit, tail), doc.clone())));
+                }
+                self.documents += tails.len();
+            }
+            if slowest.len() > 4 * TIMED {
+                slowest.sort_by(|a, b| b.0.total_cmp(&a.0));
+                slowest.truncate(TIMED);
+            }
+        }
+        first(TIMED, slowest)
     }
 
     fn say(&self, began: Instant, what: &str) {
@@ -230,7 +255,10 @@ pub fn run(words: &Words) {
     if words.minutes > 0.0 {
         search.say(began, "and drawn ones of four to six tokens");
     }
+    let blocks = search.blocks();
+    search.say(began, "and of full length with links before blocks");
     let mut list = search.slowest();
+    list.extend(blocks);
     list.extend(named());
     list.extend(known());
     show(list, words.samples);

@@ -127,7 +127,7 @@ impl Token {
         }
     }
 
-    fn describe(self) -> String {
+    pub fn describe(self) -> String {
         match self {
             Text(text) | Numbered(text) => text.escape_debug().to_string(),
             Deeper => "\\n{indent}".into(),
