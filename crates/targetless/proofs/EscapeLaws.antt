@@ -23,7 +23,7 @@ use Rattle.targetless.specs.Runs.{escapableOf, wordLabelled, isDead, des
 use Rattle.targetless.proofs.RunLaws.{either, word-other}
 use Rattle.targetless.proofs.StateLaws.{target-other, escape-destination, escape-label, escape-plain, escape-quoted, escape-closed}
 use Rattle.targetless.proofs.SizeLaws.{more, none, sized-last, sized-line, sized-pair, sized-wrong}
-use Rattle.targetless.proofs.LeafLaws.{escape-last, escape-line, escape-pair, escape-wrong}
+use Rattle.targetless.proofs.LeafLaws.{verdict-last, verdict-line, verdict-pair, verdict-wrong}
 
 -- what may be escaped in a destination may be in a name
 destination-name : (c : ℕ) → isDestinationEscapable c ≡ true → isEscapable c ≡ true
@@ -68,7 +68,7 @@ module _ (s : List ℕ) (i : ℕ) (h : i < length s) (f : getD s i 0 ≡ 0x5C) w
     pub slash-last : length s ≤ i + 1 → StateTells wrongOf (drop i s)
     slash-last l =
         slash-tells _ _ _ _ _ none
-        (escape-last s i _ true _ _ h l) (escape-last s i _ true _ _ h l) (escape-last s i _ true _ _ h l) (escape-last s i _ true _ _ h l) (escape-last s i _ false _ _ h l)
+        (verdict-last s i _ true _ _ h l) (verdict-last s i _ true _ _ h l) (verdict-last s i _ true _ _ h l) (verdict-last s i _ true _ _ h l) (verdict-last s i _ false _ _ h l)
         (sized-last s i h none f l)
 
     module _ (l : i + 1 < length s) where
@@ -76,7 +76,7 @@ module _ (s : List ℕ) (i : ℕ) (h : i < length s) (f : getD s i 0 ≡ 0x5C) w
       pub slash-line : endsLine (getD s (i + 1) 0) ≡ true → StateTells (endedOf near (more (near .size) 1)) (drop i s)
       slash-line e =
           slash-tells _ _ _ _ _ (more (near .size) 1)
-          (escape-line s i _ true _ _ l e) (escape-line s i _ true _ _ l e) (escape-line s i _ true _ _ l e) (escape-line s i _ true _ _ l e) (escape-line s i _ false _ _ l e)
+          (verdict-line s i _ true _ _ l e) (verdict-line s i _ true _ _ l e) (verdict-line s i _ true _ _ l e) (verdict-line s i _ true _ _ l e) (verdict-line s i _ false _ _ l e)
           (sized-line s i h (near .size) f l e (p .6))
 
       module _ (e : endsLine (getD s (i + 1) 0) ≡ false) where
@@ -87,11 +87,11 @@ module _ (s : List ℕ) (i : ℕ) (h : i < length s) (f : getD s i 0 ≡ 0x5C) w
             go : (x : Bool) → isDestinationEscapable (getD s (i + 1) 0) ≡ x → StateTells (pairedOf far x (more (far .size) 2)) (drop i s)
             go true k =
                 slash-tells _ _ _ _ _ (more (far .size) 2)
-                (escape-pair s i _ true _ _ l e k) (escape-pair s i _ true _ _ l e k) (escape-pair s i _ true _ _ l e g) (escape-pair s i _ true _ _ l e g) (escape-pair s i _ false _ _ l e g)
+                (verdict-pair s i _ true _ _ l e k) (verdict-pair s i _ true _ _ l e k) (verdict-pair s i _ true _ _ l e g) (verdict-pair s i _ true _ _ l e g) (verdict-pair s i _ false _ _ l e g)
                 (sized-pair s i h (far .size) f l e g (q .6))
             go false k =
                 slash-tells _ _ _ _ _ (more (far .size) 2)
-                (escape-wrong s i _ true _ _ l e k) (escape-wrong s i _ true _ _ l e k) (escape-pair s i _ true _ _ l e g) (escape-pair s i _ true _ _ l e g) (escape-pair s i _ false _ _ l e g)
+                (verdict-wrong s i _ true _ _ l e k) (verdict-wrong s i _ true _ _ l e k) (verdict-pair s i _ true _ _ l e g) (verdict-pair s i _ true _ _ l e g) (verdict-pair s i _ false _ _ l e g)
                 (sized-pair s i h (far .size) f l e g (q .6))
 
         -- before another one
@@ -99,5 +99,5 @@ module _ (s : List ℕ) (i : ℕ) (h : i < length s) (f : getD s i 0 ≡ 0x5C) w
         slash-wrong g =
             let k = name-destination (getD s (i + 1) 0) g in
             slash-tells _ _ _ _ _ none
-            (escape-wrong s i _ true _ _ l e k) (escape-wrong s i _ true _ _ l e k) (escape-wrong s i _ true _ _ l e g) (escape-wrong s i _ true _ _ l e g) (escape-wrong s i _ false _ _ l e g)
+            (verdict-wrong s i _ true _ _ l e k) (verdict-wrong s i _ true _ _ l e k) (verdict-wrong s i _ true _ _ l e g) (verdict-wrong s i _ true _ _ l e g) (verdict-wrong s i _ false _ _ l e g)
             (sized-wrong s i h none f l e g)

@@ -92,19 +92,19 @@ module _ (next within e r : Verdict) (lone : Bool) (shared : ℕ) (w : within �
 -- what a verdict says
 module _ (v : Verdict) (on : Bool) (k : ℕ) where
   module _ (e : on ≡ true) where
-    pub judged-short : k < 63 → eqb (bitAnd (v .short / 2 ^ (k + 1)) 1) 1 ≡ judgedOf v on k
+    pub answer-short : k < 63 → eqb (bitAnd (v .short / 2 ^ (k + 1)) 1) 1 ≡ judgedOf v on k
     unfolding bitAt
-    judged-short h = rw e (sym (picks-first _ _ _ (lt-ltb k 63 h)))
+    answer-short h = rw e (sym (picks-first _ _ _ (lt-ltb k 63 h)))
 
-    pub judged-long : 63 ≤ k → k < 127 → eqb (bitAnd (v .long / 2 ^ (k - 63)) 1) 1 ≡ judgedOf v on k
+    pub answer-long : 63 ≤ k → k < 127 → eqb (bitAnd (v .long / 2 ^ (k - 63)) 1) 1 ≡ judgedOf v on k
     unfolding bitAt
-    judged-long h g = rw e (sym (picks-second _ _ _ (le-ltb k 63 h) ∙ picks-first _ _ _ (lt-ltb k 127 g)))
+    answer-long h g = rw e (sym (picks-second _ _ _ (le-ltb k 63 h) ∙ picks-first _ _ _ (lt-ltb k 127 g)))
 
-    pub judged-deep : 63 ≤ k → 127 ≤ k → false ≡ judgedOf v on k
-    judged-deep h g = rw e (sym (picks-second _ _ _ (le-ltb k 63 h) ∙ picks-second _ _ _ (le-ltb k 127 g)))
+    pub answer-deep : 63 ≤ k → 127 ≤ k → false ≡ judgedOf v on k
+    answer-deep h g = rw e (sym (picks-second _ _ _ (le-ltb k 63 h) ∙ picks-second _ _ _ (le-ltb k 127 g)))
 
-  pub judged-alone : on ≡ false → isLone v ≡ judgedOf v on k
-  judged-alone e = rw e
+  pub answer-lone : on ≡ false → isLone v ≡ judgedOf v on k
+  answer-lone e = rw e
 
 -- at a line's end behind a colon, before a line that begins with q blanks
 module _ (q shared : ℕ) (v front : Verdict) where
@@ -137,57 +137,57 @@ module _ (far : State) (size : Size) (everywhere : Bool) where
 -- Escapes, at a backslash at place i.
 module _ (s : List ℕ) (i : ℕ) (ok : ℕ → Bool) (wrong : Bool) (near far : Verdict) where
   -- at the text's end
-  pub escape-last : i < length s → length s ≤ i + 1 → escapeOf ok wrong near far (drop i s) ≡ sureOf wrong
-  escape-last h g = rw (drop-last s i h g) refl
+  pub verdict-last : i < length s → length s ≤ i + 1 → escapeOf ok wrong near far (drop i s) ≡ sureOf wrong
+  verdict-last h g = rw (drop-last s i h g) refl
 
   module _ (h : i + 1 < length s) where
     -- before a line's end
-    pub escape-line : endsLine (getD s (i + 1) 0) ≡ true → escapeOf ok wrong near far (drop i s) ≡ loneOf near wrong
-    escape-line e = ap (escapeOf ok wrong near far) (drop-two s i h) ∙ picks-first _ _ _ e
+    pub verdict-line : endsLine (getD s (i + 1) 0) ≡ true → escapeOf ok wrong near far (drop i s) ≡ loneOf near wrong
+    verdict-line e = ap (escapeOf ok wrong near far) (drop-two s i h) ∙ picks-first _ _ _ e
 
     module _ (e : endsLine (getD s (i + 1) 0) ≡ false) where
       -- before a byte that may stand there
-      pub escape-pair : ok (getD s (i + 1) 0) ≡ true → escapeOf ok wrong near far (drop i s) ≡ far
-      escape-pair f = ap (escapeOf ok wrong near far) (drop-two s i h) ∙ picks-second _ _ _ e ∙ picks-first _ _ _ f
+      pub verdict-pair : ok (getD s (i + 1) 0) ≡ true → escapeOf ok wrong near far (drop i s) ≡ far
+      verdict-pair f = ap (escapeOf ok wrong near far) (drop-two s i h) ∙ picks-second _ _ _ e ∙ picks-first _ _ _ f
 
       -- before another byte
-      pub escape-wrong : ok (getD s (i + 1) 0) ≡ false → escapeOf ok wrong near far (drop i s) ≡ sureOf wrong
-      escape-wrong f = ap (escapeOf ok wrong near far) (drop-two s i h) ∙ picks-second _ _ _ e ∙ picks-second _ _ _ f
+      pub verdict-wrong : ok (getD s (i + 1) 0) ≡ false → escapeOf ok wrong near far (drop i s) ≡ sureOf wrong
+      verdict-wrong f = ap (escapeOf ok wrong near far) (drop-two s i h) ∙ picks-second _ _ _ e ∙ picks-second _ _ _ f
 
 -- Words.
 
 module _ (s : List ℕ) (i w : ℕ) (e : w ≡ wordOf (from s i)) where
   -- a word of one byte, or none
-  pub word-short : w < 2 → false ≡ wordLabelled (drop i s)
+  pub labelled-short : w < 2 → false ≡ wordLabelled (drop i s)
   unfolding wordLabelled
-  word-short h = simp (sym (e ∙ ap wordOf (part-from s i)), le-ltb 1 w (omega arith))
+  labelled-short h = simp (sym (e ∙ ap wordOf (part-from s i)), le-ltb 1 w (omega arith))
 
   -- it is within the text
-  pub word-inside : 2 ≤ w → w - 1 < length (from s i)
-  word-inside h = omega (arith, e, word-within (from s i))
+  pub last-within : 2 ≤ w → w - 1 < length (from s i)
+  last-within h = omega (arith, e, word-within (from s i))
 
-  pub word-inside-two : 2 ≤ w → w - 2 < length (from s i)
-  word-inside-two h = omega (arith, e, word-within (from s i))
+  pub second-within : 2 ≤ w → w - 2 < length (from s i)
+  second-within h = omega (arith, e, word-within (from s i))
 
   -- its last bytes tell
-  word-is : 2 ≤ w → (eqb (getD (from s i) (w - 1) 0) 0x5F && leb w (elim (eqb (getD (from s i) (w - 2) 0) 0x5F) [ true ↦ 1001 | false ↦ 1000 ])) ≡ wordLabelled (drop i s)
+  labelled-is : 2 ≤ w → (eqb (getD (from s i) (w - 1) 0) 0x5F && leb w (elim (eqb (getD (from s i) (w - 2) 0) 0x5F) [ true ↦ 1001 | false ↦ 1000 ])) ≡ wordLabelled (drop i s)
   unfolding wordLabelled
-  word-is h = rw (part-from s i) (simp (sym (e ∙ ap wordOf (part-from s i)), lt-ltb 1 w (omega arith)))
+  labelled-is h = rw (part-from s i) (simp (sym (e ∙ ap wordOf (part-from s i)), lt-ltb 1 w (omega arith)))
 
-  pub word-other : 2 ≤ w → (getD (from s i) (w - 1) 0 ≡ 0x5F → ⊥) → false ≡ wordLabelled (drop i s)
-  word-other h f = sym (ap (λ (x : Bool). x && leb w (elim (eqb (getD (from s i) (w - 2) 0) 0x5F) [ true ↦ 1001 | false ↦ 1000 ])) (ne-eqb _ _ f)) ∙ word-is h
+  pub labelled-not : 2 ≤ w → (getD (from s i) (w - 1) 0 ≡ 0x5F → ⊥) → false ≡ wordLabelled (drop i s)
+  labelled-not h f = sym (ap (λ (x : Bool). x && leb w (elim (eqb (getD (from s i) (w - 2) 0) 0x5F) [ true ↦ 1001 | false ↦ 1000 ])) (ne-eqb _ _ f)) ∙ labelled-is h
 
   module _ (h : 2 ≤ w) (f : getD (from s i) (w - 1) 0 ≡ 0x5F) where
     last-is : leb w (elim (eqb (getD (from s i) (w - 2) 0) 0x5F) [ true ↦ 1001 | false ↦ 1000 ]) ≡ wordLabelled (drop i s)
-    last-is = sym (ap (λ (x : Bool). x && leb w (elim (eqb (getD (from s i) (w - 2) 0) 0x5F) [ true ↦ 1001 | false ↦ 1000 ])) (eq-eqb _ _ f)) ∙ word-is h
+    last-is = sym (ap (λ (x : Bool). x && leb w (elim (eqb (getD (from s i) (w - 2) 0) 0x5F) [ true ↦ 1001 | false ↦ 1000 ])) (eq-eqb _ _ f)) ∙ labelled-is h
 
     -- two of `_`
-    pub word-two : getD (from s i) (w - 2) 0 ≡ 0x5F → leb w 1001 ≡ wordLabelled (drop i s)
-    word-two g = sym (ap (λ (x : Bool). leb w (elim x [ true ↦ 1001 | false ↦ 1000 ])) (eq-eqb _ _ g)) ∙ last-is
+    pub labelled-two : getD (from s i) (w - 2) 0 ≡ 0x5F → leb w 1001 ≡ wordLabelled (drop i s)
+    labelled-two g = sym (ap (λ (x : Bool). leb w (elim x [ true ↦ 1001 | false ↦ 1000 ])) (eq-eqb _ _ g)) ∙ last-is
 
     -- one
-    pub word-one : (getD (from s i) (w - 2) 0 ≡ 0x5F → ⊥) → leb w 1000 ≡ wordLabelled (drop i s)
-    word-one g = sym (ap (λ (x : Bool). leb w (elim x [ true ↦ 1001 | false ↦ 1000 ])) (ne-eqb _ _ g)) ∙ last-is
+    pub labelled-one : (getD (from s i) (w - 2) 0 ≡ 0x5F → ⊥) → leb w 1000 ≡ wordLabelled (drop i s)
+    labelled-one g = sym (ap (λ (x : Bool). leb w (elim x [ true ↦ 1001 | false ↦ 1000 ])) (ne-eqb _ _ g)) ∙ last-is
 
 -- Blanks.
 
