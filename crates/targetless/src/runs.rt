@@ -137,7 +137,8 @@ fn no_label(s: &[u8], i: usize, label: Verdict, size: Size) -> Verdict
     either(label, with_lone(long, false))
 }
 
-// A target: not told where a label begins; else what is told of a destination, and behind a backtick of a label. Targets begin behind a space.
+// A target, which begins behind a space: nothing is told where a word that is a label begins; at a backtick, what is told of a destination and of no
+// label; else what is told of a destination.
 fn target_at(s: &[u8], i: usize, destination: Verdict, label: Verdict, size: Size) -> Verdict
     requires here { ⌜ (i < length (now s)) × (endsLine (getD (now s) i 0) ≡ false) ⌝ }
     requires destination { ⌜ Tells destinationRun destination (drop i (now s)) ⌝ }
