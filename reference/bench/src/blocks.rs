@@ -25,7 +25,8 @@ fn head(what: &str, token: &str, times: usize, then: &str) -> (String, Vec<u8>) 
 pub fn heads() -> Vec<(String, Vec<u8>)> {
     let label = word(1000);
     let lines = format!("{}\n{}", word(60), blanks(8)).repeat(18);
-    let deep = blanks(130);
+    // An indent that is not marked.
+    let deep = blanks(127);
     let named = |what: &str, then: &str| head(what, "a_ .. _b ", 248, then);
     vec![
         named("a name that does not end", ""),
@@ -50,6 +51,12 @@ pub fn heads() -> Vec<(String, Vec<u8>)> {
             &format!("a_{deep}.. _b "),
             80,
             &format!(": d\n{deep}   "),
+        ),
+        head(
+            "a deep label on the next line",
+            &format!("a_{deep}.. _b "),
+            60,
+            &format!(":\n{deep}   `"),
         ),
         head(
             "no deep name",
