@@ -1,6 +1,8 @@
 // Appending keeps links: the claim about any two document calls.
 //
 // specs/Claim.antt is the claim; the one function here makes two calls and promises it of them.
+#![tactic(auto)]
+
 ghost use Rattle.std.specs.Prelude.{◌≡◌};
 ghost use Rattle.iterator.specs.Document.{answer_of, document_of, verdict};
 ghost use Rattle.appending.specs.Claim.{Keeps};
@@ -8,7 +10,7 @@ ghost use Rattle.appending.specs.Claim.{Keeps};
 use iterator::Outcome;
 
 // What two calls return.
-#[derive(Drop)]
+#[derive(Clone, Copy)]
 pub struct Both {
     pub first: Outcome,
     pub second: Outcome,

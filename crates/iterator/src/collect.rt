@@ -46,7 +46,7 @@ use restructured_text::Span;
 const SHORT_LEN_MAX: usize = 1024;
 
 // What is collected so far: how far the document is read, how many work bytes are taken, how many rows each table has, and the counters.
-#[derive(Drop)]
+#[derive(Clone, Copy)]
 pub struct MarkupLinkCollection {
     pub at: usize,
     pub fill: usize,
@@ -57,7 +57,7 @@ pub struct MarkupLinkCollection {
 }
 
 // What is collected then, or the number of a refusal.
-#[derive(Drop)]
+#[derive(Clone, Copy)]
 pub enum Step {
     Next(MarkupLinkCollection),
     Refused(u32),
@@ -127,7 +127,7 @@ fn add_alias(x: PairRow, c: MarkupLinkCollection, numbers: &mut [u32]) -> Step
 }
 
 // A label or a name, and what is collected then.
-#[derive(Drop)]
+#[derive(Clone, Copy)]
 pub struct Labelled {
     pub label: Span,
     pub collection: MarkupLinkCollection,

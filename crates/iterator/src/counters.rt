@@ -3,14 +3,14 @@ ghost use Rattle.std.specs.Prelude.{◌≡◌, ◌≤◌};
 ghost use Rattle.iterator.specs.Inner.{reference_numbered, target_numbered, started};
 
 // How many references, and how many blocks, were numbered.
-#[derive(Drop)]
+#[derive(Clone, Copy)]
 pub struct Counters {
     pub references: u32,
     pub targets: u32,
 }
 
 // The number that was given, and the counters after it.
-#[derive(Drop)]
+#[derive(Clone, Copy)]
 pub struct Numbered {
     pub number: u32,
     pub counters: Counters,

@@ -2,6 +2,8 @@
 //
 // The fourth layer (document 01, "`iterator.rs`", "Records" and "What comes out of a refusal"), over the promises of `parse`. The one
 // public call asks nothing of its caller and always returns; its contract is an equation with a definition of specs/.
+#![tactic(auto)]
+
 mod areas;
 mod collect;
 mod counters;
@@ -28,7 +30,7 @@ use rst_bytes::domain::first_outside;
 // What a call returns: the number of the refusal or 0; how many links; how many bytes of records or, refused, the place or size that the
 // number comes with.
 #[repr(C)]
-#[derive(Drop)]
+#[derive(Clone, Copy)]
 pub struct Outcome {
     pub number: u32,
     pub links: u32,

@@ -7,7 +7,7 @@ ghost use Rattle.iterator.specs.Rows.{room, SpanWithin, plain_text, text_of, hyp
 ghost use Rattle.iterator.specs.Inner.{Writable, Writing, Fields, written};
 
 use crate::rows::{LinkRow, REFERENCE, RENDERED, link_at};
-use bytes::copy;
+use rst_bytes::copy::copy;
 
 // A reference's shown text: the text part, or the destination part if that is empty.
 fn shown<'a>(text: &'a [u8], dest: &'a [u8]) -> &'a [u8]

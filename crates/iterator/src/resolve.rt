@@ -33,7 +33,7 @@ use crate::rows::{
 use restructured_text::Span;
 
 // The last destination that was stored under a name.
-#[derive(Drop)]
+#[derive(Clone, Copy)]
 pub enum Lookup {
     Has(Span),
     NotThere,
@@ -83,7 +83,7 @@ fn destination_by_index(name: Span, n: usize, numbers: &[u32], bytes: &[u8]) -> 
 // Where the walk through the aliases is: of their table the rows before `passed` and those from `next` to `end` are left; so many were
 // missed in a row; so many names have a destination. Of these names the first `known` are no target of an alias from `next` to `end`, and
 // the first `fresh` none of an alias before `passed`: their rows need not be looked at again.
-#[derive(Drop)]
+#[derive(Clone, Copy)]
 pub struct Walk {
     pub passed: usize,
     pub next: usize,
@@ -180,7 +180,7 @@ pub fn resolve_label2label_references(
 }
 
 // How many links have a destination, and how many bytes their records take.
-#[derive(Drop)]
+#[derive(Clone, Copy)]
 pub struct Resolved {
     pub links: usize,
     pub size: usize,

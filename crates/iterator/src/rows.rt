@@ -7,14 +7,14 @@ ghost use Rattle.iterator.specs.Inner.{PairSmall, LinkSmall};
 use restructured_text::Span;
 
 // A name, and its destination or, of an alias, its target.
-#[derive(Drop)]
+#[derive(Clone, Copy)]
 pub struct PairRow {
     pub name: Span,
     pub to: Span,
 }
 
 // A link: its place, how much it consumed, its text, its destination or label, and which of the three kinds it is.
-#[derive(Drop)]
+#[derive(Clone, Copy)]
 pub struct LinkRow {
     pub place: usize,
     pub consumed: usize,

@@ -6,9 +6,9 @@ ghost use Rattle.parse.specs.Single.{is_place, handed, outcome_of, Fronts};
 ghost use Rattle.parse.specs.Inner.{first_of, second_of, with_parts, LinkWithin, HandsOver, HandedFronts};
 
 use crate::{Link, Single};
-use bytes::copy;
 use restructured_text::Span;
 use rst_bytes::Character;
+use rst_bytes::copy::copy;
 use rst_bytes::domain::char_at;
 
 // Whether a place is not past the document and not inside a character.
@@ -28,7 +28,7 @@ pub fn is_place(document: &[u8], place: usize) -> bool
 }
 
 // Where two strings stand in the buffers; or the length of the first that does not fit.
-#[derive(Drop)]
+#[derive(Clone, Copy)]
 enum Handed {
     Both(Span, Span),
     TooShort(usize),
@@ -65,7 +65,7 @@ fn write_both(a: Span, b: Span, scratch: &[u8], first: &mut [u8], second: &mut [
 }
 
 // Where the two strings of a link stand.
-#[derive(Drop)]
+#[derive(Clone, Copy)]
 struct Parts {
     first: Span,
     second: Span,

@@ -11,7 +11,7 @@ use crate::rounds::is_start;
 use rst_bytes::line::is_space;
 
 // The place where the next round starts; and the places up to which there is no other line, and no other word, to pass.
-#[derive(Drop)]
+#[derive(Clone, Copy)]
 pub struct Ahead {
     pub next: usize,
     pub lines: usize,
@@ -19,7 +19,7 @@ pub struct Ahead {
 }
 
 // The place up to which the text is passed, and the one up to which it was looked for what ends that.
-#[derive(Drop)]
+#[derive(Clone, Copy)]
 pub struct Passed {
     pub next: usize,
     pub looked: usize,

@@ -25,14 +25,14 @@ pub const LONG_READ: usize = 2;
 
 // How many bytes a link consumes, and which of these is told of blocks behind them. It is a number since a bool beside one makes a struct
 // slow to hand on.
-#[derive(Drop)]
+#[derive(Clone, Copy)]
 struct Reach {
     consumed: usize,
     free: usize,
 }
 
 // What was found, and what is told of blocks behind it, likewise.
-#[derive(Drop)]
+#[derive(Clone, Copy)]
 pub struct Answer {
     pub scan: Scan,
     pub free: usize,

@@ -2,6 +2,8 @@
 //
 // The third layer (document 01, "`parse.rs`: `take_link`"), over the promises of `restructured_text`. A public call asks nothing of
 // its caller and always returns; its contract is an equation with a definition of specs/.
+#![tactic(auto)]
+
 mod backtick;
 mod barren;
 mod buffers;
@@ -28,7 +30,7 @@ use targetless::mark;
 
 // A link: where its first string (text or name) and its second string (label, destination or alias target) stand, how many bytes
 // were skipped before it and how many it consumed.
-#[derive(Drop)]
+#[derive(Clone, Copy)]
 pub enum Link {
     // An anonymous embedded link.
     Text2Dest(Span, Span, usize, usize),
@@ -43,7 +45,7 @@ pub enum Link {
 }
 
 // A scan's answer: a link whose strings stand in the scratch; or that there is none; or that the scratch is shorter than the text.
-#[derive(Drop)]
+#[derive(Clone, Copy)]
 pub enum Scan {
     Found(Link),
     NotFound,
@@ -52,7 +54,7 @@ pub enum Scan {
 
 // What is known from a place on: before `shut` no backtick begins a part that is closed, before `barren` none begins an embedded link,
 // before `blocks` no block begins. `failed` counts the long blocks that were read and are none: no claim is made of it.
-#[derive(Drop)]
+#[derive(Clone, Copy)]
 pub struct Known {
     pub shut: usize,
     pub barren: usize,
@@ -66,7 +68,7 @@ pub const FAILED_MAX: usize = 8;
 pub const MARKED: usize = 9;
 
 // A scan's answer, and what is known from behind the link that was found, if one was.
-#[derive(Drop)]
+#[derive(Clone, Copy)]
 pub struct Next {
     pub scan: Scan,
     pub known: Known,
@@ -74,7 +76,7 @@ pub struct Next {
 
 // The single-link call's answer: a link whose strings stand at the front of the two buffers; or the refusal's number, with its
 // place or size in bytes.
-#[derive(Drop)]
+#[derive(Clone, Copy)]
 pub enum Single {
     Linked(Link),
     Refused(u32, usize),

@@ -33,7 +33,7 @@ use rst_bytes::line::space0;
 
 // A round's answer: the scan's, what is told of blocks behind the link, and how many were read that are none; or the place where the next
 // round starts, and what is known from there on.
-#[derive(Drop)]
+#[derive(Clone, Copy)]
 pub enum Step {
     Stops(Scan, usize, usize),
     Passes(usize, Known),

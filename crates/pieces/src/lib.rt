@@ -1,12 +1,14 @@
 // The pieces of the two lower layers by number, and their answers in numbers: what recorded answers are replayed on, and what is
 // compared with the Rust's own. For the tests alone, no part of what is delivered. A function only hands on what the piece answers.
+#![tactic(auto)]
+
 pub mod parser;
 
 use rst_bytes::{Character, Outside, Part};
 
 // An answer: whether there is one (1 or 0), its value, and the code point of a character.
 #[repr(C)]
-#[derive(Drop)]
+#[derive(Clone, Copy)]
 pub struct Answer {
     pub accepted: usize,
     pub value: usize,

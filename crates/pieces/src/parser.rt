@@ -2,7 +2,6 @@
 //
 // 1 to 8 give raw parts, which stand in the input; 9 to 17 give strings, which stand in the scratch. What a parser gives one of
 // is the first, and the second is then empty.
-use bytes::copy;
 use restructured_text::block::{Block, rst_explicit_markup_block};
 use restructured_text::inline::{rst_text_label2dest, rst_text2dest, rst_text2label};
 use restructured_text::label::{SimpleLabel, rst_parse_simple_label, rst_parse_text2label};
@@ -12,10 +11,11 @@ use restructured_text::transform::{
     Transformed, rst_escaped_link_destination_transform, rst_escaped_link_text_transform,
 };
 use restructured_text::{Spans, Strings};
+use rst_bytes::copy::copy;
 
 // An answer: 1 found, 0 refused, 2 the scratch is too short; where the two parts or strings stand; how many bytes are consumed.
 #[repr(C)]
-#[derive(Drop)]
+#[derive(Clone, Copy)]
 pub struct Parsed {
     pub accepted: usize,
     pub first: usize,

@@ -5,14 +5,14 @@
 ghost use Rattle.std.specs.Prelude.{◌≡◌, ◌++◌, ◌+◌, ◌≤◌, length, take};
 ghost use Rattle.restructured_text.specs.Block.{start_of, cut_of, further_of, lines_of, block_of, block_in, lent_block};
 
-use bytes::copy;
 use rst_bytes::Part;
+use rst_bytes::copy::copy;
 use rst_bytes::line::{line_ending, not_line_ending, space0};
 use rst_bytes::tag::tag;
 
 // The length of the block's text and how many bytes the block consumed; or that there is no block; or that the scratch is shorter
 // than the input.
-#[derive(Drop)]
+#[derive(Clone, Copy)]
 pub enum Block {
     Joined(usize, usize),
     NoBlock,
@@ -20,14 +20,14 @@ pub enum Block {
 }
 
 // A further line: how many bytes stand before its text, and the length of its text; or that the block ends.
-#[derive(Drop)]
+#[derive(Clone, Copy)]
 pub enum Line {
     Further(usize, usize),
     End,
 }
 
 // How much was joined: the length of the text so far, and how many bytes were read.
-#[derive(Drop)]
+#[derive(Clone, Copy)]
 pub struct Lines {
     pub len: usize,
     pub read: usize,

@@ -7,7 +7,7 @@ use crate::label::rst_parse_text2label;
 use crate::scratch::{shared, transformed};
 use crate::text2target::rst_parse_text2target;
 use crate::{Spans, Strings};
-use bytes::copy;
+use rst_bytes::copy::copy;
 
 // A text with its destination, anonymous or named.
 fn embedded(s: &[u8], scratch: &mut [u8], anonym: bool) -> Strings

@@ -10,7 +10,7 @@ use rst_bytes::tag::tag;
 use rst_bytes::word::word_run;
 
 // Where a simple label stands.
-#[derive(Drop)]
+#[derive(Clone, Copy)]
 pub struct Label {
     pub start: usize,
     pub len: usize,
@@ -22,7 +22,7 @@ impl Label {
 }
 
 // A simple label and how many bytes it consumed, or that there is none.
-#[derive(Drop)]
+#[derive(Clone, Copy)]
 pub enum SimpleLabel {
     Named(Label, usize),
     NoLabel,

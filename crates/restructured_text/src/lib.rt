@@ -3,6 +3,8 @@
 // The second layer (document 01, "`restructured_text.rs`"), over the promises of `rst_bytes`. A parser takes the part of the
 // document that starts at its place, reads nothing else, asks nothing of its caller and always returns. Where it gives strings it
 // is lent a scratch, in which they stand when it returns; its contract is an equation with a definition of specs/.
+#![tactic(auto)]
+
 pub mod block;
 mod delimited;
 pub mod inline;
@@ -13,14 +15,14 @@ pub mod text2target;
 pub mod transform;
 
 // Where some bytes stand.
-#[derive(Drop)]
+#[derive(Clone, Copy)]
 pub struct Span {
     pub start: usize,
     pub len: usize,
 }
 
 // Where two raw parts stand in a parser's input, and how many bytes it consumed; or that it refuses.
-#[derive(Drop)]
+#[derive(Clone, Copy)]
 pub enum Spans {
     Parsed(Span, Span, usize),
     Nothing,
@@ -28,7 +30,7 @@ pub enum Spans {
 
 // Where two strings stand in the scratch, and how many bytes of the input were consumed; or that there is no such form; or that
 // the scratch is shorter than the input.
-#[derive(Drop)]
+#[derive(Clone, Copy)]
 pub enum Strings {
     Found(Span, Span, usize),
     NotFound,

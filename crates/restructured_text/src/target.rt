@@ -31,21 +31,21 @@ use rst_bytes::line::space0;
 use rst_bytes::tag::tag;
 
 // A name and how many bytes it takes with what stands around it, or that there is none.
-#[derive(Drop)]
+#[derive(Clone, Copy)]
 pub enum Name {
     Is(Span, usize),
     NoName,
 }
 
 // Where a target stands in what follows the name, or that there is none.
-#[derive(Drop)]
+#[derive(Clone, Copy)]
 pub enum Rest {
     Target(Span),
     NoTarget,
 }
 
 // The raw target in what follows the name: where it stands, and whether it is an alias's.
-#[derive(Drop)]
+#[derive(Clone, Copy)]
 pub struct Raw {
     pub alias: bool,
     pub start: usize,
@@ -54,7 +54,7 @@ pub struct Raw {
 
 // What a target block defines: its name and its target, where they stand in the scratch, and how many bytes of the input were
 // consumed; or that there is no such block; or that the scratch is shorter than the input.
-#[derive(Drop)]
+#[derive(Clone, Copy)]
 pub enum Definition {
     Alias(Span, Span, usize),
     Destination(Span, Span, usize),

@@ -18,7 +18,7 @@ use rst_bytes::escaped::is_escapable;
 use rst_bytes::line::is_multispace;
 
 // How many bytes a transform wrote, or that it refuses.
-#[derive(Drop)]
+#[derive(Clone, Copy)]
 pub enum Transformed {
     Text(usize),
     Wrong,

@@ -3,6 +3,9 @@
 // The lowest layer (document 01, "Bytes and the `nom` pieces"). A function takes the part of the document that starts at its
 // place, reads nothing else, asks nothing of its caller and always returns; its contract is an equation with a definition of
 // specs/, but that of `free_front`, which may stop anywhere before what it is to pass by.
+#![tactic(auto)]
+
+pub mod copy;
 pub mod domain;
 pub mod escaped;
 pub mod free;
@@ -12,21 +15,21 @@ pub mod trim;
 pub mod word;
 
 // What a piece takes from the front of its part: so many bytes, or that it refuses.
-#[derive(Drop)]
+#[derive(Clone, Copy)]
 pub enum Part {
     Taken(usize),
     Refused,
 }
 
 // The character at a place: its length in bytes and its code point, or that none starts there.
-#[derive(Drop)]
+#[derive(Clone, Copy)]
 pub enum Character {
     Starts(usize, u32),
     Nothing,
 }
 
 // The place of the first byte that starts no character of the domain, or that there is none.
-#[derive(Drop)]
+#[derive(Clone, Copy)]
 pub enum Outside {
     At(usize),
     Nowhere,

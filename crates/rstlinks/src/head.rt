@@ -5,7 +5,7 @@ ghost use Rattle.iterator.specs.ReadBack.{word_at};
 ghost use Rattle.rstlinks.specs.Head.{head_of, Small};
 
 // The four fields.
-#[derive(Drop)]
+#[derive(Clone, Copy)]
 pub struct Head {
     pub skipped: usize,
     pub consumed: usize,

@@ -1,5 +1,7 @@
 // Reads a note in reStructuredText from standard input, and writes its links, resolved: `links N`, then a line for each with its place,
 // the bytes that it consumed, its text and its destination, both quoted; or `refused N`, with the number of document 01's table.
+#![tactic(auto)]
+
 mod head;
 mod quote;
 mod show;

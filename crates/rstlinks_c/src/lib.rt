@@ -1,6 +1,8 @@
 // The two public calls for C, as include/rstlinks.h says them.
 //
 // Each hands on what `iterator::document` and `parse::single_link` answer, and promises the same equation.
+#![tactic(auto)]
+
 ghost use Rattle.std.specs.Prelude.{◌≡◌};
 ghost use Rattle.parse.specs.Single.{single_of};
 ghost use Rattle.iterator.specs.Document.{answer_of, document_of, verdict};
@@ -13,7 +15,7 @@ use restructured_text::Span;
 // An answer: the number of a refusal, or 0, and its place or size in bytes; the case, 1 to 5, or 0; the bytes skipped and consumed;
 // the lengths of the two strings, which stand at the front of the buffers. What is not named is 0.
 #[repr(C)]
-#[derive(Drop)]
+#[derive(Clone, Copy)]
 pub struct Taken {
     pub number: u32,
     pub bytes: u32,

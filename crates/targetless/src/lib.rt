@@ -3,6 +3,8 @@
 // Whether a block's text is a target is found by runs over it: to the colon of a name, to a backtick, to a wrong escape. From one place to the
 // next a run goes on alike, and so it does from the end of a line to the next one, but for where the block ends, which its indent says. So the
 // text is gone through once, from its end to its front, and at each place it is kept for which indents a run finds what it looks for.
+#![tactic(auto)]
+
 mod candidate;
 mod line;
 mod runs;
@@ -17,14 +19,14 @@ use crate::line::{began, stepped};
 // What is told of the texts that stand from a place on, for each indent that their block may have: where no further line follows the line,
 // it is so if bit 0 of `short` is 1; where one does, for an indent of k bytes if bit k + 1 of `short` is 1, or from 63 bytes on bit k - 63 of
 // `long`. Of 127 bytes and more nothing is told there.
-#[derive(Drop)]
+#[derive(Clone, Copy)]
 pub struct Verdict {
     pub short: usize,
     pub long: usize,
 }
 
 // How many bytes a label has up to the backtick that closes it: `kept`, less the bytes of the indent and three spaces `ends` times.
-#[derive(Drop)]
+#[derive(Clone, Copy)]
 pub struct Size {
     pub kept: usize,
     pub ends: usize,
@@ -33,7 +35,7 @@ pub struct Size {
 // The verdicts at a place: that a destination is refused; that behind a backtick no label is closed, or it is refused; that a plain name does
 // not end, or has a target that is refused; the same of a name behind a backtick; that this one is closed; that a target is refused. And the size
 // of a label that goes on here.
-#[derive(Drop)]
+#[derive(Clone, Copy)]
 pub struct State {
     pub destination: Verdict,
     pub label: Verdict,

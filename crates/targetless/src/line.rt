@@ -12,7 +12,7 @@ use rst_bytes::line::{is_space, space0};
 // The states at a place and at the next one; at a line's end, whether a colon before it ends no name, or the target on the next line is refused;
 // whether a target behind the blanks at this place is refused; where the line behind this one starts, or the text's length if there is none or it
 // is refused; and whether this line is refused.
-#[derive(Drop)]
+#[derive(Clone, Copy)]
 pub struct Walk {
     pub near: State,
     pub far: State,

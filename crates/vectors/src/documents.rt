@@ -6,7 +6,7 @@ use crate::{document, single};
 
 // How far a replay is: its place in the file; where the last document starts and ends, and how many of its calls are left; how many
 // document calls and how many single-link calls were met, and how many of each agree.
-#[derive(Drop)]
+#[derive(Clone, Copy)]
 pub struct Walk {
     at: usize,
     start: usize,

@@ -1,5 +1,7 @@
 // Replays the recorded answers of the Rust on the proved functions, and writes how many agree. data/README.md says what is
 // recorded and how it was made.
+#![tactic(auto)]
+
 mod areas;
 mod document;
 mod documents;

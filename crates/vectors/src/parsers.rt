@@ -3,13 +3,13 @@ use crate::number::{one, two};
 use pieces::parser::{Parsed, rst_parser};
 
 // A record, by where its parts stand in the file.
-#[derive(Drop)]
+#[derive(Clone, Copy)]
 enum Record {
     At(Parts),
     End,
 }
 
-#[derive(Drop)]
+#[derive(Clone, Copy)]
 struct Parts {
     input: usize,
     answer: usize,

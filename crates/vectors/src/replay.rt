@@ -2,13 +2,13 @@
 use crate::number::{four, one, two};
 
 // A record, by where its parts stand in the file.
-#[derive(Drop)]
+#[derive(Clone, Copy)]
 enum Record {
     At(Parts),
     End,
 }
 
-#[derive(Drop)]
+#[derive(Clone, Copy)]
 struct Parts {
     input: usize,
     answer: usize,

@@ -1,0 +1,13 @@
+-- `records::write_records` meets its contract. The loop's invariant, `Emitted`: what is written so far is the front of all records, and the
+-- records of the links ahead are the rest of them. The measure is how many links are left.
+-- Assumes nothing.
+use Prim.Native.Nat.{◌-◌}
+use native.Mathlib.Omega.{arith}
+use Rattle.iterator.proofs.RecordLaws.{room-left, Emitted, emit-start, emit-length, emit-within, emit-order, emit-fits, emit-turn, emit-done}
+use Rattle.iterator.proofs.records.write_records.Given as goal
+
+abbrev pub invariant-loop-i : goal.invariant-loop-i
+invariant-loop-i l = Emitted l.n l.document l.numbers l.bytes l.initial.output l.output l.i l.end l.at
+
+abbrev pub decreases-loop-i : goal.decreases-loop-i
+decreases-loop-i l = l.n - l.i

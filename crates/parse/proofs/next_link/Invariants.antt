@@ -1,0 +1,25 @@
+-- `next_link` meets its contract. The loop's invariant: the scan from the front is that from i on, i bytes being skipped, and what is
+-- known holds from i on, with the marks as they are. Calm text is passed; the marks may be written, and what is known holds then too; a
+-- round ends the scan, or passes some bytes: the measure is what is left.
+-- Where it ends with a link, what was known in front of it is true behind it, and what is told of blocks there is true.
+-- Assumes nothing.
+use Prim.Native.Nat.{◌-◌, ◌≤◌}
+use mathlib.Core.Path.{◌≡◌, refl, sym, subst, subst⁻¹, ◌∙◌}
+use native.Mathlib.Omega.{arith}
+use lib.ListN.{length, drop}
+use borrow.Author.Rules.{rules}
+use Rattle.parse.specs.Link.{Ends}
+use Rattle.parse.specs.Forms.{rst}
+use Rattle.parse.specs.Scan.{rounds, scan_with, scan_of}
+use Rattle.parse.specs.Inner.{Holds, StepEnds, StepHolds}
+use Rattle.parse.proofs.ScanLaws.{rounds-end}
+use Rattle.parse.proofs.BacktickLaws.{holds_later}
+use Rattle.parse.proofs.OnwardLaws.{found_within, found-holds}
+use Rattle.parse.proofs.RoundLaws.{is-scanned, step-stops, step-passes, lent-short, lent-enough}
+use Rattle.parse.proofs.next_link.Given as goal
+
+abbrev pub invariant-loop-i : goal.invariant-loop-i
+invariant-loop-i l = (l.i ≤ length l.s) × (length l.scratch ≡ length l.initial.scratch) × (scan_of l.s ≡ rounds rst 0 l.input_start l.i (drop l.i l.s)) × Holds l.i l.known l.marks l.s × (length l.marks ≡ length l.initial.marks)
+
+abbrev pub decreases-loop-i : goal.decreases-loop-i
+decreases-loop-i l = length l.s - l.i

@@ -1,0 +1,17 @@
+-- `block::join_lines` meets its contract. The loop's invariant: what stands at the front of d with the lines that are left is what
+-- stood there first with all lines, and what is left fits. A further line writes a space and its text, and reads more bytes than
+-- that. The measure is what is left.
+-- Assumes nothing.
+use Prim.Native.Nat.{◌-◌}
+use mathlib.Core.Path.{sym, ◌∙◌}
+use native.Mathlib.Omega.{arith}
+use lib.ListN.{length}
+use borrow.Author.Rules.{rules}
+use Rattle.restructured_text.proofs.JoinLaws.{Joins, joins-start, joins-more, joins-end, line-part, line-le, line-less, line-room, part_room, copy-room}
+use Rattle.restructured_text.proofs.block.join_lines.Given as goal
+
+abbrev pub invariant-loop-a : goal.invariant-loop-a
+invariant-loop-a l = Joins l.indent l.s l.initial.d l.d l.m l.i l.n
+
+abbrev pub decreases-loop-a : goal.decreases-loop-a
+decreases-loop-a l = length l.s - l.i

@@ -1,0 +1,32 @@
+-- `target::plain_name` meets its contract: `plain_name_of` by what `delimited` answers. The name and what stands around it lie within the
+-- text, so their lengths do not overflow.
+-- Assumes nothing.
+use Prim.Native.Nat.{◌+◌}
+use mathlib.Core.Path.{◌≡◌, sym, ap, ◌∙◌}
+use native.Mathlib.Omega.{arith}
+use borrow.Author.Rules.{rules}
+use Rattle.restructured_text.specs.declared.target.Name.TheVariants.{Is}
+use Rattle.restructured_text.proofs.DelimitedLaws.{delimited-within}
+use Rattle.restructured_text.proofs.TargetLaws.{plain-named, plain-none}
+use Rattle.restructured_text.proofs.target.plain_name.Goals as goal
+
+-- TODO add-t14 : tie.Need-overflow-add-t14
+-- TODO add-t14 c =
+-- TODO     let s = c.before.before.before.before.before.before.before.before.args.s.now in
+-- TODO     let w = delimited-within _ _ _ _ s _ (sym c.before.before.before.delimited.ensures ∙ c.before.n.given.1) in
+-- TODO     omega arith
+
+pub overflow_add-result-in-Taken : goal.overflow_add-result-in-Taken
+overflow_add-result-in-Taken c =
+    let s = c.args.s.now in
+    let w = delimited-within _ _ _ _ s _ (sym c.delimited.ensures ∙ c.in-Taken.is) in
+    omega arith
+
+pub returns-in-Taken : goal.returns-in-Taken
+returns-in-Taken c =
+    let n = c.in-Taken.n in
+    let k : n + 1 + 2 ≡ n + 3 = omega arith in
+    ap (Is (record { start = 1; len = n })) k ∙ sym (plain-named c.args.s.now n (sym c.delimited.ensures ∙ c.in-Taken.is))
+
+pub returns-in-Refused : goal.returns-in-Refused
+returns-in-Refused c = sym (plain-none _ (sym c.delimited.ensures ∙ c.in-Refused.is))

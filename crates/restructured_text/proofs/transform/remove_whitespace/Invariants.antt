@@ -1,0 +1,19 @@
+-- `transform::remove_whitespace` meets its contract. The loop's invariant is `At`: i bytes are read and n written, from n on the
+-- text is as it was, and what was written stands before what the rest gives. One law of the definition at i for each way through
+-- the body; an escape writes its two bytes. The measure is what is left to read.
+-- Assumes nothing.
+use Prim.Native.Nat.{◌-◌}
+use mathlib.Core.Path.{sym, ◌∙◌}
+use native.Mathlib.Omega.{arith}
+use lib.Seq.{lt-length-set}
+use lib.ListN.{length}
+use borrow.Author.Rules.{rules}
+use Rattle.restructured_text.specs.Transform.{kept_of}
+use Rattle.restructured_text.proofs.TransformLaws.{At, kept-start, skip, write, write_two, ends-bad, ends-well, at-end, at-alone, at-wrong, at-two, at-blank, at-unblank}
+use Rattle.restructured_text.proofs.transform.remove_whitespace.Given as goal
+
+abbrev pub invariant-loop-i : goal.invariant-loop-i
+invariant-loop-i l = At kept_of l.initial.d l.d l.i l.n
+
+abbrev pub decreases-loop-i : goal.decreases-loop-i
+decreases-loop-i l = length l.initial.d - l.i

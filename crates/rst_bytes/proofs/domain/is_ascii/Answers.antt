@@ -1,0 +1,31 @@
+-- `is_ascii` meets its contract. The loop's invariant: every byte is below 80 if and only if the greatest up to i and all from i on are.
+-- Assumes nothing.
+use Prim.Native.Nat.{◌≤◌, ◌-◌}
+use mathlib.Core.Path.{◌≡◌, refl, sym, ◌∙◌}
+use mathlib.Core.Logic.{⊎_elim}
+use mathlib.Core.Bool.{◌&&◌}
+use native.Mathlib.Omega.{arith}
+use borrow.Author.Rules.{rules}
+use lib.Dec.{ltb}
+use lib.ListN.{length, drop}
+use Rattle.rst_bytes.specs.Inner.{is_ascii}
+use Rattle.rst_bytes.proofs.DomainLaws.{ascii-same, ascii_more, ascii-end}
+use Rattle.rst_bytes.proofs.domain.is_ascii.Goals as goal
+
+pub loop-i-init : goal.loop-i-init
+loop-i-init c = (omega arith, refl)
+
+pub loop-i-preserved : goal.loop-i-preserved
+loop-i-preserved c =
+    let l = c.loop-i in
+    let s = c.args.s.now in (
+      omega arith,
+      l.invariant.1
+          ∙ ⊎_elim
+          (λ w. rw w.1 (ascii_more s l.i l.top (omega arith) w.0.taken))
+          (λ w. rw w.1 (ascii-same s l.i l.top (omega arith) w.0.left))
+          c.if-top-b.branch,
+    )
+
+pub returns : goal.returns
+returns c = sym (c.loop-i.invariant.1 ∙ ascii-end c.args.s.now c.loop-i.i c.loop-i.top (omega arith))

@@ -1,0 +1,32 @@
+-- `line::space0` meets its contract. The loop's invariant: i is at most the length, and the count is that from i on, i bytes being
+-- counted. One law of `bytes_from` at i for each way through the body. The measure is what is left.
+-- Assumes nothing.
+use Prim.Native.Nat.{◌≤◌, ◌-◌}
+use mathlib.Core.Path.{◌≡◌, refl, sym, ◌∙◌}
+use native.Mathlib.Omega.{arith}
+use lib.ListN.{length, drop}
+use borrow.Author.Rules.{rules}
+use Rattle.rst_bytes.specs.Line.{is_space, bytes_from}
+use Rattle.rst_bytes.proofs.LineLaws.{bytes-end, bytes-pass, bytes-stop}
+use Rattle.rst_bytes.proofs.line.space0.Goals as goal
+
+pub loop-i-init : goal.loop-i-init
+loop-i-init c = (omega arith, refl)
+
+pub loop-i-preserved : goal.loop-i-preserved
+loop-i-preserved c =
+    let s = c.args.s.now in
+    let i = c.loop-i.i in
+    (omega arith, c.loop-i.invariant.1 ∙ bytes-pass is_space s i (omega arith) (sym c.is_space.ensures ∙ c.if-is_space.true))
+
+pub returns-else-is_space : goal.returns-else-is_space
+returns-else-is_space c =
+    let s = c.args.s.now in
+    let i = c.loop-i.i in
+    sym (c.loop-i.invariant.1 ∙ bytes-stop is_space s i (omega arith) (sym c.is_space.ensures ∙ c.if-is_space.false))
+
+pub returns : goal.returns
+returns c =
+    let s = c.args.s.now in
+    let i = c.loop-i.i in
+    sym (c.loop-i.invariant.1 ∙ bytes-end is_space s i (omega arith))

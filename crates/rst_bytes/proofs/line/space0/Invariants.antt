@@ -1,0 +1,17 @@
+-- `line::space0` meets its contract. The loop's invariant: i is at most the length, and the count is that from i on, i bytes being
+-- counted. One law of `bytes_from` at i for each way through the body. The measure is what is left.
+-- Assumes nothing.
+use Prim.Native.Nat.{◌≤◌, ◌-◌}
+use mathlib.Core.Path.{◌≡◌, refl, sym, ◌∙◌}
+use native.Mathlib.Omega.{arith}
+use lib.ListN.{length, drop}
+use borrow.Author.Rules.{rules}
+use Rattle.rst_bytes.specs.Line.{is_space, bytes_from}
+use Rattle.rst_bytes.proofs.LineLaws.{bytes-end, bytes-pass, bytes-stop}
+use Rattle.rst_bytes.proofs.line.space0.Given as goal
+
+abbrev pub invariant-loop-i : goal.invariant-loop-i
+invariant-loop-i l = (l.i ≤ length l.s) × (bytes_from is_space 0 l.s ≡ bytes_from is_space l.i (drop l.i l.s))
+
+abbrev pub decreases-loop-i : goal.decreases-loop-i
+decreases-loop-i l = length l.s - l.i

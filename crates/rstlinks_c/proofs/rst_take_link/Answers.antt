@@ -1,0 +1,17 @@
+-- `rst_take_link` meets its contract: it is that of `single_link`, whose lengths 32 bits hold.
+-- Assumes nothing.
+use borrow.Author.Rules.{rules}
+use Rattle.rstlinks_c.proofs.TakenLaws.{link-short, link-answered, refused-short, refused-answered}
+use Rattle.rstlinks_c.proofs.rst_take_link.Goals as goal
+
+pub link-requires : goal.link-requires
+link-requires c = link-short _ _ _ _ _ _ _ _ c.single_link.ensures.outcome c.in-Linked.is
+
+pub refused-requires : goal.refused-requires
+refused-requires c = refused-short _ _ _ _ _ _ _ _ _ c.single_link.ensures.outcome c.in-Refused.is
+
+pub returns-in-Linked : goal.returns-in-Linked
+returns-in-Linked c = link-answered _ _ _ _ _ _ _ _ c.single_link.ensures.outcome c.in-Linked.is _ c.link.ensures
+
+pub returns-in-Refused : goal.returns-in-Refused
+returns-in-Refused c = refused-answered _ _ _ _ _ _ _ _ _ c.single_link.ensures.outcome c.in-Refused.is _ c.refused.ensures

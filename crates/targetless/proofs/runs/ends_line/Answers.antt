@@ -1,0 +1,10 @@
+-- `runs::ends_line` meets its contract: the byte is LF, or it is not and the answer is whether it is CR.
+-- Assumes nothing.
+use borrow.Author.Tests.{eq-eqb, ne_eqb}
+use Rattle.targetless.proofs.runs.ends_line.Goals as goal
+
+pub returns-then-b-eq10 : goal.returns-then-b-eq10
+returns-then-b-eq10 c = simp (eq-eqb _ _ c.if-b-eq10.true)
+
+pub returns-else-b-eq10 : goal.returns-else-b-eq10
+returns-else-b-eq10 c = simp (ne_eqb _ _ c.if-b-eq10.false)
