@@ -9,8 +9,8 @@ use Rattle.rst_bytes.proofs.DomainLaws.{Bounds, pair-bounds, at-end, at_one, at_
 use Rattle.rst_bytes.proofs.domain.char_at.Goals as goal
 
 -- the two bytes of the pair
-bounds : (c : tie.Then4) → Bounds (get_or c.before.before.before.before.before.before.before.before.args.s.now c.before.before.before.before.before.before.before.before.args.i 0) (get_or c.before.before.before.before.before.before.before.before.args.s.now (c.before.before.before.before.before.before.before.before.args.i + 1) 0)
-bounds c = pair-bounds _ _ (sym c.before.is-pair.ensures ∙ c.if4.true)
+bounds : (c : goal.Then-is_pair) → Bounds (get_or c.args.s.now c.args.i 0) (get_or c.args.s.now (c.args.i + 1) 0)
+bounds c = pair-bounds _ _ (sym c.is_pair.ensures ∙ c.if-is_pair.true)
 
 pub returns-then-s-i : goal.returns-then-s-i
 returns-then-s-i c = sym (at-end _ _ c.if-s-i.true)

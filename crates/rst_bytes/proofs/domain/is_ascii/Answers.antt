@@ -11,6 +11,7 @@ use lib.ListN.{length, drop}
 use Rattle.rst_bytes.specs.Inner.{is_ascii}
 use Rattle.rst_bytes.proofs.DomainLaws.{ascii-same, ascii_more, ascii-end}
 use Rattle.rst_bytes.proofs.domain.is_ascii.Goals as goal
+use Rattle.rst_bytes.proofs.domain.is_ascii.Goals.{then-top-b, else-top-b}
 
 pub loop-i-init : goal.loop-i-init
 loop-i-init c = (omega arith, refl)
@@ -21,10 +22,10 @@ loop-i-preserved c =
     let s = c.args.s.now in (
       omega arith,
       l.invariant.1
-          ∙ ⊎_elim
-          (λ w. rw w.1 (ascii_more s l.i l.top (omega arith) w.0.taken))
-          (λ w. rw w.1 (ascii-same s l.i l.top (omega arith) w.0.left))
-          c.if-top-b.branch,
+          ∙ elim c.if-top-b.branch [
+            then-top-b w ↦ rw w.top-is (ascii_more s l.i l.top (omega arith) w.if-top-b.true)
+          | else-top-b w ↦ rw w.top-is (ascii-same s l.i l.top (omega arith) w.if-top-b.false)
+          ],
     )
 
 pub returns : goal.returns
