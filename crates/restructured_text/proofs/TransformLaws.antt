@@ -421,7 +421,7 @@ kept-alone b e = ap is_refused (alone is_destination_escapable (λ c. 0x5C ∷ c
 
 module _ (b c : ℕ) (l : List ℕ) (e : eqb b 0x5C ≡ true) where
   pub kept_pair : is_destination_escapable c ≡ true → is_refused (kept_of (b ∷ c ∷ l)) ≡ is_refused (kept_of l)
-  kept_pair f = ap is_refused (escape is_destination_escapable (λ d. 0x5C ∷ d ∷ []) unblank b c l e f) ∙ onto-refused _ (kept_of l)
+  kept_pair f = ap is_refused (escape is_destination_escapable (λ d. 0x5C ∷ d ∷ []) unblank b c l e f) ∙ onto-refused (0x5C ∷ c ∷ []) (kept_of l)
 
   pub kept-wrong : is_destination_escapable c ≡ false → is_refused (kept_of (b ∷ c ∷ l)) ≡ true
   unfolding is_refused

@@ -43,7 +43,7 @@
 --   without two bytes  where a text has neither: EscapedLaws free-next: its first byte is neither, nor has the rest one; free-more:
 --                      nor has it with such a byte in front; free-drop, free-take: nor have its parts; no-slash: a byte that is neither
 --                      of two backslashes is none; TagLaws starts-free: nor what it begins with
---   lists and tests    Lists part-from, drop-end, drop-next, drop-two, drop-last: parts of a list; TestLaws picks-first,
+--   lists and tests    Lists part-from, drop-end, drop-next, drop-two, drop-last, as-front: parts of a list; TestLaws picks-first,
 --                      picks-second, by-test, by-test₂, lt-or-le, or-cases, neither: what a test picks
 --   appending          LineLaws body-drop; bytes-append: a run is the same with a byte behind it that does not pass; on s ++ 10 ∷ t:
 --                      DomainLaws outside-lf; WordLaws word-lf; EscapedLaws refused-lf, taken-lf, open-lf; LineLaws newline-lf,

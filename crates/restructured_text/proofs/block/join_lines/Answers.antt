@@ -2,18 +2,15 @@
 -- stood there first with all lines, and what is left fits. A further line writes a space and its text, and reads more bytes than
 -- that. The measure is what is left.
 -- Assumes nothing.
-use Prim.Native.Nat.{◌-◌}
+use Prim.Native.Nat.{◌+◌, ◌-◌}
 use mathlib.Core.Path.{sym, ◌∙◌}
 use native.Mathlib.Omega.{arith}
-use lib.ListN.{length}
+use lib.ListN.{length, take, drop, set}
 use borrow.Author.Rules.{rules}
+use Rattle.rst_bytes.proofs.Lists.{as-front}
+use Rattle.restructured_text.proofs.BlockLaws.{from}
 use Rattle.restructured_text.proofs.JoinLaws.{Joins, joins-start, joins-more, joins-end, line-part, line-le, line-less, line-room, part_room, copy-room}
 use Rattle.restructured_text.proofs.block.join_lines.Goals as goal
-
--- TODO part-copy-start-2 : tie.Need-slice-bounds-copy-start-2 invariant-loop decreases-loop
--- TODO part-copy-start-2 c =
--- TODO     let line = sym c.before.before.before.before.further-line.ensures ∙ c.before.before.a.given.1 in
--- TODO     part_room c.before.before.before.before.before.before.loop.invariant _ _ line _
 
 pub loop-a-init : goal.loop-a-init
 loop-a-init c = joins-start _ _ _ _ c.requires
@@ -61,10 +58,15 @@ loop-a-smaller c =
 pub loop-a-preserved : goal.loop-a-preserved
 loop-a-preserved c =
     let line = sym c.further_line.ensures ∙ c.in-Further.is in
-    joins-more c.loop-a.invariant _ _ line _ c.copy.ensures
+    joins-more c.loop-a.invariant _ _ line _ (as-front (take (c.in-Further.a + c.in-Further.len - c.in-Further.a) (drop c.in-Further.a (from c.args.s.now c.loop-a.i))) (from (set c.loop-a.d c.loop-a.n 32) (c.loop-a.n + 1)) c.copy.ensures)
 
 pub shape_of-d-in-End : goal.shape_of-d-in-End
 shape_of-d-in-End c = c.loop-a.invariant.len
 
 pub returns-in-End : goal.returns-in-End
 returns-in-End c = let pair = joins-end c.loop-a.invariant (sym c.further_line.ensures ∙ c.in-End.is) in record { len = pair.0; read = pair.1.0; text = pair.1.1 }
+
+pub slice_bounds-copy-start-in-Further : goal.slice_bounds-copy-start-in-Further
+slice_bounds-copy-start-in-Further c =
+    let line = sym c.further_line.ensures ∙ c.in-Further.is in
+    part_room c.loop-a.invariant _ _ line _

@@ -8,14 +8,6 @@ use Rattle.rst_bytes.proofs.TagLaws.{starts-le}
 use Rattle.restructured_text.proofs.BlockLaws.{tags-fit, cut-none, cut-other, cut_short, cut-taken}
 use Rattle.restructured_text.proofs.block.line_start.Goals as goal
 
--- TODO add-t22 : tie.Need-overflow-add-t22
--- TODO add-t22 c =
--- TODO     let s = c.before.before.before.before.before.before.before.before.before.before.before.before.before.before.args.s.now in
--- TODO     let ends = sym c.before.before.before.before.before.before.before.before.before.before.before.line-ending.ensures ∙ c.before.before.before.before.before.before.before.before.before.k.given.1 in
--- TODO     let there = sym c.before.before.before.before.before.before.tag.ensures ∙ c.before.before.before.before.before.if1.true in
--- TODO     let fits = tags-fit _ _ s _ ends there (sym c.before.tag2.ensures ∙ c.if2.true) in
--- TODO     omega arith
-
 pub slice_bounds-t-count : goal.slice_bounds-t-count
 slice_bounds-t-count c = line-ending-le _ _ (sym c.line_ending.ensures ∙ c.in-Taken.is)
 
@@ -55,3 +47,11 @@ returns-else-tag c =
 
 pub returns-in-Refused : goal.returns-in-Refused
 returns-in-Refused c = sym (cut-none _ _ (sym c.line_ending.ensures ∙ c.in-Refused.is))
+
+pub overflow_add-result : goal.overflow_add-result
+overflow_add-result c =
+    let s = c.args.s.now in
+    let ends = sym c.line_ending.ensures ∙ c.in-Taken.is in
+    let there = sym c.tag.ensures ∙ c.if-tag.true in
+    let fits = tags-fit _ _ s _ ends there (sym c.tag-then-tag.ensures ∙ c.if-tag-2.true) in
+    omega arith

@@ -4,22 +4,12 @@
 -- Assumes nothing.
 use mathlib.Core.Path.{sym, ◌∙◌}
 use native.Mathlib.Omega.{arith}
+use lib.ListN.{take}
 use borrow.Author.Rules.{rules}
-use Rattle.restructured_text.proofs.BlockLaws.{indent-length, start-le, block_none, block_refused, lent-short, lent-enough}
+use Rattle.rst_bytes.proofs.Lists.{as-front}
+use Rattle.restructured_text.proofs.BlockLaws.{from, indent-length, start-le, block_none, block_refused, lent-short, lent-enough}
 use Rattle.restructured_text.proofs.JoinLaws.{first-le, first-length, first_fits, read_fits, first-room, rest-room, block-joined}
 use Rattle.restructured_text.proofs.block.rst_explicit_markup_block.Goals as goal
-
--- TODO add-t19 : tie.Need-overflow-add-t19
--- TODO add-t19 c =
--- TODO     let start = sym c.before.before.before.before.before.before.before.before.before.before.before.before.before.before.before.before.before.before.before.before.block_start.ensures ∙ c.before.before.before.before.before.before.before.before.before.before.before.before.before.before.before.before.before.before.a.given.1 in
--- TODO     let line = sym c.before.before.before.before.before.before.before.before.before.before.before.before.before.before.before.not-line-ending.ensures ∙ c.before.before.before.before.before.before.before.before.before.before.before.before.before.n.given.1 in
--- TODO     omega (arith, first_fits _ _ _ _ start line)
-
--- TODO add-t31 : tie.Need-overflow-add-t31
--- TODO add-t31 c =
--- TODO     let start = sym c.before.before.before.before.before.before.before.before.before.before.before.before.before.before.before.before.before.before.before.before.before.block_start.ensures ∙ c.before.before.before.before.before.before.before.before.before.before.before.before.before.before.before.before.before.before.before.a.given.1 in
--- TODO     let line = sym c.before.before.before.before.before.before.before.before.before.before.before.before.before.before.before.before.not-line-ending.ensures ∙ c.before.before.before.before.before.before.before.before.before.before.before.before.before.before.n.given.1 in
--- TODO     omega (arith, read_fits _ _ _ _ start line _ _ c.before.before.before.join-lines.ensures.1.0)
 
 pub returns-then-scratch-s : goal.returns-then-scratch-s
 returns-then-scratch-s c =
@@ -63,13 +53,13 @@ pub join_lines-lines-requires : goal.join_lines-lines-requires
 join_lines-lines-requires c =
     let start = sym c.block_start.ensures ∙ c.in-Taken.is in
     let line = sym c.not_line_ending.ensures ∙ c.in-Taken-not_line_ending.is in
-    rest-room _ _ _ _ start line c.args.scratch.now c.if-scratch-s.false _ c.copy.ensures
+    rest-room _ _ _ _ start line c.args.scratch.now c.if-scratch-s.false _ (as-front (take c.in-Taken-not_line_ending.n (from c.args.s.now c.in-Taken.a)) c.args.scratch.now c.copy.ensures)
 
 pub returns-in-Taken-not_line_ending : goal.returns-in-Taken-not_line_ending
 returns-in-Taken-not_line_ending c =
     let start = sym c.block_start.ensures ∙ c.in-Taken.is in
     let line = sym c.not_line_ending.ensures ∙ c.in-Taken-not_line_ending.is in
-    block-joined _ _ _ _ start line c.args.scratch.now c.if-scratch-s.false _ c.copy.ensures _ c.space0-i.ensures _ _ c.join_lines-lines.ensures.read c.join_lines-lines.ensures.text
+    block-joined _ _ _ _ start line c.args.scratch.now c.if-scratch-s.false _ (as-front (take c.in-Taken-not_line_ending.n (from c.args.s.now c.in-Taken.a)) c.args.scratch.now c.copy.ensures) _ c.space0-i.ensures _ _ c.join_lines-lines.ensures.read c.join_lines-lines.ensures.text
 
 pub returns-in-Refused-not_line_ending : goal.returns-in-Refused-not_line_ending
 returns-in-Refused-not_line_ending c =
@@ -82,3 +72,15 @@ pub returns-in-Refused : goal.returns-in-Refused
 returns-in-Refused c =
     let args = c.args in
     sym (lent-enough args.header.now args.s.now args.scratch.now c.if-scratch-s.false ∙ block_none _ _ (sym c.block_start.ensures ∙ c.in-Refused.is))
+
+pub overflow_add-result : goal.overflow_add-result
+overflow_add-result c =
+    let start = sym c.block_start.ensures ∙ c.in-Taken.is in
+    let line = sym c.not_line_ending.ensures ∙ c.in-Taken-not_line_ending.is in
+    omega (arith, first_fits _ _ _ _ start line)
+
+pub overflow_add-result-in-Taken-not_line_ending : goal.overflow_add-result-in-Taken-not_line_ending
+overflow_add-result-in-Taken-not_line_ending c =
+    let start = sym c.block_start.ensures ∙ c.in-Taken.is in
+    let line = sym c.not_line_ending.ensures ∙ c.in-Taken-not_line_ending.is in
+    omega (arith, read_fits _ _ _ _ start line _ _ c.join_lines-lines.ensures.read)

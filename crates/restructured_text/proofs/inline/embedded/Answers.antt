@@ -4,9 +4,10 @@
 use mathlib.Core.Path.{sym, subst, ◌∙◌}
 use mathlib.Core.Bool.{true, false}
 use native.Mathlib.Omega.{arith}
-use lib.ListN.{length, length-take}
+use lib.ListN.{take, length, length-take}
 use lib.Seq.{length-take-le}
 use borrow.Author.Rules.{rules}
+use Rattle.rst_bytes.proofs.Lists.{as-front}
 use Rattle.restructured_text.specs.Text2target.{text2target_of}
 use Rattle.restructured_text.specs.Inline.{embedded_of}
 use Rattle.restructured_text.proofs.StringsLaws.{lent-short}
@@ -39,7 +40,7 @@ returns-in-Parsed c =
     let e = sym c.rst_parse_text2target.ensures ∙ c.in-Parsed.is in
     let p = subst (Apart (length w.s.now)) e (text2target-apart w.anonym false w.s.now) in record {
       strings = finished-copied true w.s.now w.scratch.now c.copy.new.d (text2target_of w.anonym false w.s.now) _ _ _ _
-          e c.if-scratch-s.false c.copy.ensures (omega arith, p.1, p.2, p.3) c.transformed.ensures.strings;
+          e c.if-scratch-s.false (as-front (take c.in-Parsed.n c.args.s.now) c.args.scratch.now c.copy.ensures) (omega arith, p.1, p.2, p.3) c.transformed.ensures.strings;
       ends = c.transformed.ensures.ends;
     }
 

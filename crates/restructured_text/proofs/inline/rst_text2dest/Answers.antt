@@ -6,4 +6,4 @@ use Rattle.restructured_text.proofs.inline.rst_text2dest.Goals as goal
 
 pub returns : goal.returns
 unfolding text2dest_of
-returns c = let pair = c.embedded.ensures.? in record { strings = pair.0; ends = pair.1 }
+returns c = c.embedded.ensures

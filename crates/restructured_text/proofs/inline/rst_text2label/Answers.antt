@@ -5,9 +5,10 @@
 use mathlib.Core.Path.{sym, subst, ◌∙◌}
 use mathlib.Core.Bool.{false}
 use native.Mathlib.Omega.{arith}
-use lib.ListN.{length, length-take}
+use lib.ListN.{take, length, length-take}
 use lib.Seq.{length-take-le}
 use borrow.Author.Rules.{rules}
+use Rattle.rst_bytes.proofs.Lists.{as-front}
 use Rattle.restructured_text.specs.Label.{parse_text2label_of}
 use Rattle.restructured_text.specs.Inline.{text2label_of}
 use Rattle.restructured_text.proofs.StringsLaws.{lent-short}
@@ -53,7 +54,7 @@ returns-then-e-label c =
     let e = sym c.rst_parse_text2label.ensures ∙ c.in-Parsed.is in
     let p = subst (Placed (length w.s.now)) e (reference-placed w.s.now) in record {
       strings = finished-copied false w.s.now w.scratch.now c.copy.new.d (parse_text2label_of w.s.now) _ _ _ _
-          e c.if-scratch-s.false c.copy.ensures (p.1, p.2, p.3, p.4) c.transformed.ensures.strings;
+          e c.if-scratch-s.false (as-front (take c.in-Parsed.n c.args.s.now) c.args.scratch.now c.copy.ensures) (p.1, p.2, p.3, p.4) c.transformed.ensures.strings;
       ends = c.transformed.ensures.ends;
     }
 
@@ -64,7 +65,7 @@ returns-else-e-label c =
     let e = sym c.rst_parse_text2label.ensures ∙ c.in-Parsed.is in
     let p = subst (Placed (length w.s.now)) e (reference-placed w.s.now) in record {
       strings = finished-shared false w.s.now w.scratch.now c.copy.new.d (parse_text2label_of w.s.now) _ _ _ _
-          e c.if-scratch-s.false c.copy.ensures p c.if-e-label.false c.shared.ensures.strings;
+          e c.if-scratch-s.false (as-front (take c.in-Parsed.n c.args.s.now) c.args.scratch.now c.copy.ensures) p c.if-e-label.false c.shared.ensures.strings;
       ends = c.shared.ensures.ends;
     }
 

@@ -11,6 +11,7 @@ use Rattle.rst_bytes.proofs.WordLaws.{word-within}
 use Rattle.restructured_text.proofs.DelimitedLaws.{ends-le}
 use Rattle.restructured_text.proofs.LabelLaws.{word_two, word-one, word_none}
 use Rattle.restructured_text.proofs.label.take_word_consume_first_ending_underscore.Goals as goal
+use Rattle.restructured_text.proofs.label.take_word_consume_first_ending_underscore.Goals.{then-w-ge3+else-ends_with, else-w-ge3}
 
 pub slice_bounds-run-end : goal.slice_bounds-run-end
 slice_bounds-run-end c = sym (length-take-le _ c.args.s.now (rw c.word_run-w.ensures (word-within c.args.s.now)))
@@ -25,7 +26,7 @@ overflow_sub-result-then-ends_with-2 c =
     omega (arith, ends-le (0x5F ∷ []) (take w s) (sym c.ends_with-2.ensures ∙ c.if-ends_with-2.true), length-take w s)
 
 pub returns-then-ends_with-2 : goal.returns-then-ends_with-2
-returns-then-ends_with-2 c = sym (word-one _ _ _ c.word_run-w.ensures refl (⊎_elim (λ x. inr (sym x.2.ensures ∙ x.3.left)) (λ y. inl y.left) c.if-w-ge3.branch) (sym c.ends_with-2.ensures ∙ c.if-ends_with-2.true))
+returns-then-ends_with-2 c = sym (word-one _ _ _ c.word_run-w.ensures refl (elim c.if-w-ge3.branch [ then-w-ge3+else-ends_with x ↦ inr (sym x.ends_with.ensures ∙ x.if-ends_with.false) | else-w-ge3 y ↦ inl y.if-w-ge3.false ]) (sym c.ends_with-2.ensures ∙ c.if-ends_with-2.true))
 
 pub returns : goal.returns
-returns c = sym (word_none _ _ _ c.word_run-w.ensures refl (⊎_elim (λ x. inr (sym x.2.ensures ∙ x.3.left)) (λ y. inl y.left) c.if-w-ge3.branch) (sym c.ends_with-2.ensures ∙ c.if-ends_with-2.false))
+returns c = sym (word_none _ _ _ c.word_run-w.ensures refl (elim c.if-w-ge3.branch [ then-w-ge3+else-ends_with x ↦ inr (sym x.ends_with.ensures ∙ x.if-ends_with.false) | else-w-ge3 y ↦ inl y.if-w-ge3.false ]) (sym c.ends_with-2.ensures ∙ c.if-ends_with-2.false))

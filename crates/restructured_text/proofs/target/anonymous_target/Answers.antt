@@ -28,4 +28,4 @@ pub returns-in_default : goal.returns-in_default
 returns-in_default c = let pair = anonymous-refused c.args.d.now c.args.len c.args.n c.requires _ c.raw_target-raw.ensures (sym c.in_default.is ∙ c.rst_escaped_link_destination_transform.ensures.answer) in record { alias = pair.0; destination = pair.1.0; ends = pair.1.1 }
 
 pub returns : goal.returns
-returns c = let pair = anonymous-told c.args.d.now c.args.len c.args.n c.requires _ c.raw_target-raw.ensures _ _ _ _ c.rst_escaped_link_destination_transform.auto.d.0 (sym c.in-Text.is ∙ c.rst_escaped_link_destination_transform.ensures.answer) c.rst_escaped_link_destination_transform.ensures.bytes c.told.ensures in record { alias = pair.0; destination = pair.1.0; ends = pair.1.1 }
+returns c = let pair = anonymous-told c.args.d.now c.args.len c.args.n c.requires _ c.raw_target-raw.ensures _ _ _ _ c.rst_escaped_link_destination_transform.auto.d (sym c.in-Text.is ∙ c.rst_escaped_link_destination_transform.ensures.answer) c.rst_escaped_link_destination_transform.ensures.bytes c.told.ensures in record { alias = pair.0; destination = pair.1.0; ends = pair.1.1 }

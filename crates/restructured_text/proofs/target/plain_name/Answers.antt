@@ -10,12 +10,6 @@ use Rattle.restructured_text.proofs.DelimitedLaws.{delimited-within}
 use Rattle.restructured_text.proofs.TargetLaws.{plain-named, plain-none}
 use Rattle.restructured_text.proofs.target.plain_name.Goals as goal
 
--- TODO add-t14 : tie.Need-overflow-add-t14
--- TODO add-t14 c =
--- TODO     let s = c.before.before.before.before.before.before.before.before.args.s.now in
--- TODO     let w = delimited-within _ _ _ _ s _ (sym c.before.before.before.delimited.ensures ∙ c.before.n.given.1) in
--- TODO     omega arith
-
 pub overflow_add-result-in-Taken : goal.overflow_add-result-in-Taken
 overflow_add-result-in-Taken c =
     let s = c.args.s.now in
@@ -30,3 +24,9 @@ returns-in-Taken c =
 
 pub returns-in-Refused : goal.returns-in-Refused
 returns-in-Refused c = sym (plain-none _ (sym c.delimited.ensures ∙ c.in-Refused.is))
+
+pub overflow_add-result : goal.overflow_add-result
+overflow_add-result c =
+    let s = c.args.s.now in
+    let w = delimited-within _ _ _ _ s _ (sym c.delimited.ensures ∙ c.in-Taken.is) in
+    omega arith
