@@ -68,7 +68,7 @@ module _ (s : List ℕ) (i : ℕ) (h : i < length s) (f : get_or s i 0 ≡ 0x5C)
     pub slash-last : length s ≤ i + 1 → StateTells wrong_of (drop i s)
     slash-last l =
         slash-tells _ _ _ _ _ none
-        (verdict-last s i _ true _ _ h l) (verdict-last s i _ true _ _ h l) (verdict-last s i _ true _ _ h l) (verdict-last s i _ true _ _ h l) (verdict-last s i _ false _ _ h l)
+        (verdict-last s i (escapable_of false) true near.destination far.destination h l) (verdict-last s i (escapable_of false) true near.label far.label h l) (verdict-last s i (escapable_of true) true near.plain far.plain h l) (verdict-last s i (escapable_of true) true near.quoted far.quoted h l) (verdict-last s i (escapable_of true) false near.closed far.closed h l)
         (sized-last s i h none f l)
 
     module _ (l : i + 1 < length s) where
@@ -76,7 +76,7 @@ module _ (s : List ℕ) (i : ℕ) (h : i < length s) (f : get_or s i 0 ≡ 0x5C)
       pub slash-line : ends_line (get_or s (i + 1) 0) ≡ true → StateTells (ended_of near (more near.size 1)) (drop i s)
       slash-line e =
           slash-tells _ _ _ _ _ (more near.size 1)
-          (verdict-line s i _ true _ _ l e) (verdict-line s i _ true _ _ l e) (verdict-line s i _ true _ _ l e) (verdict-line s i _ true _ _ l e) (verdict-line s i _ false _ _ l e)
+          (verdict-line s i (escapable_of false) true near.destination far.destination l e) (verdict-line s i (escapable_of false) true near.label far.label l e) (verdict-line s i (escapable_of true) true near.plain far.plain l e) (verdict-line s i (escapable_of true) true near.quoted far.quoted l e) (verdict-line s i (escapable_of true) false near.closed far.closed l e)
           (sized-line s i h near.size f l e p.6)
 
       module _ (e : ends_line (get_or s (i + 1) 0) ≡ false) where
@@ -87,11 +87,11 @@ module _ (s : List ℕ) (i : ℕ) (h : i < length s) (f : get_or s i 0 ≡ 0x5C)
             go : (x : Bool) → is_destination_escapable (get_or s (i + 1) 0) ≡ x → StateTells (paired_of far x (more far.size 2)) (drop i s)
             go true k =
                 slash-tells _ _ _ _ _ (more far.size 2)
-                (verdict-pair s i _ true _ _ l e k) (verdict-pair s i _ true _ _ l e k) (verdict-pair s i _ true _ _ l e g) (verdict-pair s i _ true _ _ l e g) (verdict-pair s i _ false _ _ l e g)
+                (verdict-pair s i (escapable_of false) true near.destination far.destination l e k) (verdict-pair s i (escapable_of false) true near.label far.label l e k) (verdict-pair s i (escapable_of true) true near.plain far.plain l e g) (verdict-pair s i (escapable_of true) true near.quoted far.quoted l e g) (verdict-pair s i (escapable_of true) false near.closed far.closed l e g)
                 (sized-pair s i h far.size f l e g q.6)
             go false k =
                 slash-tells _ _ _ _ _ (more far.size 2)
-                (verdict-wrong s i _ true _ _ l e k) (verdict-wrong s i _ true _ _ l e k) (verdict-pair s i _ true _ _ l e g) (verdict-pair s i _ true _ _ l e g) (verdict-pair s i _ false _ _ l e g)
+                (verdict-wrong s i (escapable_of false) true near.destination far.destination l e k) (verdict-wrong s i (escapable_of false) true near.label far.label l e k) (verdict-pair s i (escapable_of true) true near.plain far.plain l e g) (verdict-pair s i (escapable_of true) true near.quoted far.quoted l e g) (verdict-pair s i (escapable_of true) false near.closed far.closed l e g)
                 (sized-pair s i h far.size f l e g q.6)
 
         -- before another one
@@ -99,5 +99,5 @@ module _ (s : List ℕ) (i : ℕ) (h : i < length s) (f : get_or s i 0 ≡ 0x5C)
         slash-wrong g =
             let k = name-destination (get_or s (i + 1) 0) g in
             slash-tells _ _ _ _ _ none
-            (verdict-wrong s i _ true _ _ l e k) (verdict-wrong s i _ true _ _ l e k) (verdict-wrong s i _ true _ _ l e g) (verdict-wrong s i _ true _ _ l e g) (verdict-wrong s i _ false _ _ l e g)
+            (verdict-wrong s i (escapable_of false) true near.destination far.destination l e k) (verdict-wrong s i (escapable_of false) true near.label far.label l e k) (verdict-wrong s i (escapable_of true) true near.plain far.plain l e g) (verdict-wrong s i (escapable_of true) true near.quoted far.quoted l e g) (verdict-wrong s i (escapable_of true) false near.closed far.closed l e g)
             (sized-wrong s i h none f l e g)

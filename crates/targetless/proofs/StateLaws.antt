@@ -205,7 +205,7 @@ module _ (s : List ℕ) (i : ℕ) (h : i < length s) where
       pub label-open : starts_with (0x60 ∷ 0x5F ∷ []) (from s i) ≡ false → Tells label_stop (everything) (drop i s)
       unfolding starts_with
       label-open k =
-          tells_all label_stop _ (drop i s) (λ indent n t.
+          tells_all label_stop everything (drop i s) (λ indent n t.
           let z = begins indent n t in
           let q = first_byte_lem indent s (i + 1) z.1 0x5F (λ (x : 0x5F ≡ 0x20). absurd (omega (arith, x))) z.2 (second 0x60 0x5F f (λ (x : 0x5F ≡ 0x20). absurd (omega (arith, x))) (ap (starts_with (0x60 ∷ 0x5F ∷ [])) (sym (part-from s i)) ∙ k)) in
           ap label_stop (z.4 ∙ ap (λ (b : ℕ). b ∷ z.0) f ∙ ap (λ (l : List ℕ). 0x60 ∷ l) z.3) ∙ ap not q)
@@ -214,7 +214,7 @@ module _ (s : List ℕ) (i : ℕ) (h : i < length s) where
       pub quoted-open : starts_with (0x60 ∷ 0x3A ∷ []) (from s i) ≡ false → Tells quoted_stop (everything) (drop i s)
       unfolding starts_with
       quoted-open k =
-          tells_all quoted_stop _ (drop i s) (λ indent n t.
+          tells_all quoted_stop everything (drop i s) (λ indent n t.
           let z = begins indent n t in
           let q = first_byte_lem indent s (i + 1) z.1 0x3A (λ (x : 0x3A ≡ 0x20). absurd (omega (arith, x))) z.2 (second 0x60 0x3A f (λ (x : 0x3A ≡ 0x20). absurd (omega (arith, x))) (ap (starts_with (0x60 ∷ 0x3A ∷ [])) (sym (part-from s i)) ∙ k)) in
           ap quoted_stop (z.4 ∙ ap (λ (b : ℕ). b ∷ z.0) f ∙ ap (λ (l : List ℕ). 0x60 ∷ l) z.3) ∙ none-closed (joined_of indent z.1 (drop (i + 1) s)) q)
@@ -242,7 +242,7 @@ module _ (s : List ℕ) (i : ℕ) (h : i < length s) where
       pub closed-tick : starts_with (0x60 ∷ 0x3A ∷ 0x20 ∷ []) (from s i) ≡ true → Tells closed_stop (everything) (drop i s)
       unfolding starts_with
       closed-tick k =
-          tells_all closed_stop _ (drop i s) (λ indent n t.
+          tells_all closed_stop everything (drop i s) (λ indent n t.
           let c = followed 0x60 0x3A (0x20 ∷ []) f (ap (starts_with (0x60 ∷ 0x3A ∷ 0x20 ∷ [])) (sym (part-from s i)) ∙ k) in
           let y = two indent n 0x3A t c.0 c.1 refl in
           let l = starts-le (0x20 ∷ []) (drop (i + 2) s) c.2 in
@@ -284,7 +284,7 @@ module _ (s : List ℕ) (i : ℕ) (h : i < length s) where
       pub plain-last : length s ≤ i + 1 → Tells plain_stop (everything) (drop i s)
       unfolding starts_with
       plain-last k =
-          tells_all plain_stop _ (drop i s) (λ indent n t.
+          tells_all plain_stop everything (drop i s) (λ indent n t.
           let z = begins indent n t in
           ap plain_stop (z.4 ∙ ap (λ (c : ℕ). c ∷ z.0) f ∙ ap (λ (l : List ℕ). 0x3A ∷ l) (z.3 ∙ text-none indent s (i + 1) z.1 k z.2)))
 
@@ -292,7 +292,7 @@ module _ (s : List ℕ) (i : ℕ) (h : i < length s) where
       pub plain_other : i + 1 < length s → ends_line (get_or s (i + 1) 0) ≡ false → (get_or s (i + 1) 0 ≡ 0x20 → ⊥) → Tells plain_stop (everything) (drop i s)
       unfolding starts_with
       plain_other j q g =
-          tells_all plain_stop _ (drop i s) (λ indent n t.
+          tells_all plain_stop everything (drop i s) (λ indent n t.
           let y = two indent n (get_or s (i + 1) 0) t j refl q in
           let r = joined_of indent y.0 (drop (i + 2) s) in
           ap plain_stop (y.2 ∙ ap (λ (c : ℕ). c ∷ get_or s (i + 1) 0 ∷ r) f) ∙ ap (λ (x : Bool). not (elim x [ true ↦ true | false ↦ false ]) || is_dead r) (ne_eqb (get_or s (i + 1) 0) 0x20 g))
