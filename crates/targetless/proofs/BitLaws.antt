@@ -5,9 +5,9 @@ use Prim.Native.Nat.{ℕ, zero, suc, ◌+◌, ◌-◌, ◌*◌, ◌/◌, ◌%◌
 use native.Mathlib.Omega.{arith}
 use native.Mathlib.Nat.{mod-lt, mul_assoc, div-eq_of_lt, zero-div, pow-le-pow_right}
 use mathlib.Core.Path.{◌≡◌, sym, ap, ◌∙◌}
-use mathlib.Core.Bool.{true, false}
+use mathlib.Core.Bool.{true}
 use mathlib.Core.Logic.{◌⊎◌, inl, inr, ⊎_elim}
-use lib.Dec.{eqb, leb}
+use lib.Dec.{leb}
 use lib.Bits.{bit_and, bit_or, and_shr, or_shr, and_mod, or_mod, and_le_l, and_le_r, or_zero_l, and_mask, shifted_even}
 use lib.Pow.{pow-add, shl-shr, ones_lt, high_ones}
 use borrow.Author.Tests.{eqb-true, eq-eqb, leb-true, leb-false}

@@ -1,13 +1,10 @@
 -- `mark` meets its contract: what is kept at each place is true, and where a mark is set no target starts. The measure is the place.
 -- Assumes nothing.
 use Prim.Native.Nat.{◌≤◌}
-use mathlib.Core.Path.{◌≡◌, refl, subst⁻¹, ap, ◌∙◌}
-use native.Mathlib.Omega.{arith}
-use borrow.Author.Rules.{rules}
-use lib.ListN.{length, length-set, length-replicate}
+use mathlib.Core.Path.{◌≡◌}
+use lib.ListN.{length}
 use Rattle.targetless.specs.Targetless.{Marks}
 use Rattle.targetless.specs.Walk.{Walked}
-use Rattle.targetless.proofs.WalkLaws.{walked_next, marks-none, marks-more}
 use Rattle.targetless.proofs.mark.Given as goal
 
 abbrev pub invariant-loop-i : goal.invariant-loop-i

@@ -2,7 +2,6 @@
 -- Assumes nothing.
 use mathlib.Core.Path.{sym, ◌∙◌}
 use native.Mathlib.Omega.{arith}
-use borrow.Author.Rules.{rules}
 use Rattle.restructured_text.proofs.BlockLaws.{indent-le, start-taken, start-refused, start-le}
 use Rattle.restructured_text.proofs.block.block_start.Goals as goal
 

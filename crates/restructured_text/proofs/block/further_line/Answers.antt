@@ -1,7 +1,6 @@
 -- `block::further_line` meets its contract: `further_of` by what is cut and by the rest of the line, as the code goes.
 -- Assumes nothing.
 use mathlib.Core.Path.{sym, ◌∙◌}
-use borrow.Author.Rules.{rules}
 use Rattle.restructured_text.proofs.BlockLaws.{cut-le, further-none, further-refused, further-taken}
 use Rattle.restructured_text.proofs.block.further_line.Goals as goal
 

@@ -5,11 +5,10 @@
 use Prim.Native.Nat.{◌+◌, ◌-◌}
 use mathlib.Core.Path.{sym, ◌∙◌}
 use native.Mathlib.Omega.{arith}
-use lib.ListN.{length, take, drop, set}
-use borrow.Author.Rules.{rules}
+use lib.ListN.{take, drop, set}
 use Rattle.rst_bytes.proofs.Lists.{as-front}
 use Rattle.restructured_text.proofs.BlockLaws.{from}
-use Rattle.restructured_text.proofs.JoinLaws.{Joins, joins-start, joins-more, joins-end, line-part, line-le, line-less, line-room, part_room, copy-room}
+use Rattle.restructured_text.proofs.JoinLaws.{joins-start, joins-more, joins-end, line-part, line-le, line-less, line-room, part_room, copy-room}
 use Rattle.restructured_text.proofs.block.join_lines.Goals as goal
 
 pub loop-a-init : goal.loop-a-init

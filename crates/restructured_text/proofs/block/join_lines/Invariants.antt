@@ -3,11 +3,8 @@
 -- that. The measure is what is left.
 -- Assumes nothing.
 use Prim.Native.Nat.{◌-◌}
-use mathlib.Core.Path.{sym, ◌∙◌}
-use native.Mathlib.Omega.{arith}
 use lib.ListN.{length}
-use borrow.Author.Rules.{rules}
-use Rattle.restructured_text.proofs.JoinLaws.{Joins, joins-start, joins-more, joins-end, line-part, line-le, line-less, line-room, part_room, copy-room}
+use Rattle.restructured_text.proofs.JoinLaws.{Joins}
 use Rattle.restructured_text.proofs.block.join_lines.Given as goal
 
 abbrev pub invariant-loop-a : goal.invariant-loop-a

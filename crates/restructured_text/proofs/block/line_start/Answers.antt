@@ -2,7 +2,6 @@
 -- Assumes nothing.
 use mathlib.Core.Path.{sym, ◌∙◌}
 use native.Mathlib.Omega.{arith}
-use borrow.Author.Rules.{rules}
 use Rattle.rst_bytes.proofs.LineLaws.{line-ending-le}
 use Rattle.rst_bytes.proofs.TagLaws.{starts-le}
 use Rattle.restructured_text.proofs.BlockLaws.{tags-fit, cut-none, cut-other, cut_short, cut-taken}

@@ -5,7 +5,6 @@
 use mathlib.Core.Path.{sym, ◌∙◌}
 use native.Mathlib.Omega.{arith}
 use lib.ListN.{take}
-use borrow.Author.Rules.{rules}
 use Rattle.rst_bytes.proofs.Lists.{as-front}
 use Rattle.restructured_text.proofs.BlockLaws.{from, indent-length, start-le, block_none, block_refused, lent-short, lent-enough}
 use Rattle.restructured_text.proofs.JoinLaws.{first-le, first-length, first_fits, read_fits, first-room, rest-room, block-joined}

@@ -2,7 +2,6 @@
 -- Assumes nothing.
 use mathlib.Core.Bool.{Bool}
 use mathlib.Core.Path.{sym, ap, ◌∙◌}
-use borrow.Author.Rules.{rules}
 use Rattle.restructured_text.specs.Delimited.{backticked_of}
 use Rattle.restructured_text.proofs.delimited.backticked.Goals as goal
 

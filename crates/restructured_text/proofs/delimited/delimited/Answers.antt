@@ -1,7 +1,6 @@
 -- `delimited` meets its contract: one law of `delimited_of` for each way through the two tags and the part between them.
 -- Assumes nothing.
 use mathlib.Core.Path.{sym, ◌∙◌}
-use borrow.Author.Rules.{rules}
 use Rattle.rst_bytes.proofs.EscapedLaws.{taken-le}
 use Rattle.rst_bytes.proofs.Lists.{part-from}
 use Rattle.rst_bytes.proofs.TagLaws.{starts-le}

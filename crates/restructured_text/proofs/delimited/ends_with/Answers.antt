@@ -1,7 +1,6 @@
 -- `ends_with` meets its contract: the last bytes are a part of the text, as long as the tag.
 -- Assumes nothing.
 use mathlib.Core.Path.{sym, ◌∙◌}
-use borrow.Author.Rules.{rules}
 use Rattle.rst_bytes.proofs.Lists.{part-from}
 use Rattle.restructured_text.proofs.DelimitedLaws.{ends-short, ends_last}
 use Rattle.restructured_text.proofs.delimited.ends_with.Goals as goal

@@ -6,7 +6,6 @@ use mathlib.Core.Bool.{true, false}
 use native.Mathlib.Omega.{arith}
 use lib.ListN.{take, length, length-take}
 use lib.Seq.{length-take-le}
-use borrow.Author.Rules.{rules}
 use Rattle.rst_bytes.proofs.Lists.{as-front}
 use Rattle.restructured_text.specs.Text2target.{text2target_of}
 use Rattle.restructured_text.specs.Inline.{embedded_of}

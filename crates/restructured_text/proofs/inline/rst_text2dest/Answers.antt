@@ -1,6 +1,5 @@
 -- `inline::rst_text2dest` meets its contract: it is the embedded form, anonymous.
 -- Assumes nothing.
-use borrow.Author.Rules.{rules}
 use Rattle.restructured_text.specs.Inline.{text2dest_of}
 use Rattle.restructured_text.proofs.inline.rst_text2dest.Goals as goal
 

@@ -7,7 +7,6 @@ use mathlib.Core.Bool.{false}
 use native.Mathlib.Omega.{arith}
 use lib.ListN.{take, length, length-take}
 use lib.Seq.{length-take-le}
-use borrow.Author.Rules.{rules}
 use Rattle.rst_bytes.proofs.Lists.{as-front}
 use Rattle.restructured_text.specs.Label.{parse_text2label_of}
 use Rattle.restructured_text.specs.Inline.{text2label_of}

@@ -1,7 +1,6 @@
 -- `label_form` meets its contract: the label form of text2target, else a simple label.
 -- Assumes nothing.
 use mathlib.Core.Path.{sym, ◌∙◌}
-use borrow.Author.Rules.{rules}
 use Rattle.restructured_text.proofs.LabelLaws.{form-label, form-simple}
 use Rattle.restructured_text.proofs.label.label_form.Goals as goal
 

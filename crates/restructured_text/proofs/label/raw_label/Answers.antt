@@ -3,7 +3,6 @@
 use mathlib.Core.Bool.{false}
 use mathlib.Core.Path.{sym, ◌∙◌}
 use native.Mathlib.Omega.{arith}
-use borrow.Author.Rules.{rules}
 use Rattle.restructured_text.proofs.DelimitedLaws.{backticked-within}
 use Rattle.restructured_text.proofs.LabelLaws.{raw-quoted, raw_word}
 use Rattle.restructured_text.proofs.label.raw_label.Goals as goal

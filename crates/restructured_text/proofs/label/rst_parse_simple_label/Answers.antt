@@ -1,7 +1,6 @@
 -- `rst_parse_simple_label` meets its contract: by the length of the raw label; the limit is the definition's number.
 -- Assumes nothing.
 use mathlib.Core.Path.{sym, ◌∙◌}
-use borrow.Author.Rules.{rules}
 use Rattle.restructured_text.proofs.LabelLaws.{simple-empty, simple-long, simple-named, simple-none}
 use Rattle.restructured_text.proofs.label.rst_parse_simple_label.Goals as goal
 

@@ -5,7 +5,6 @@ use mathlib.Core.List.{[], ◌∷◌}
 use mathlib.Core.Path.{sym, ap, subst, ◌∙◌}
 use native.Mathlib.Omega.{arith}
 use lib.ListN.{length, take, drop, length-drop}
-use borrow.Author.Rules.{rules}
 use Rattle.rst_bytes.proofs.Lists.{part-from}
 use Rattle.rst_bytes.proofs.TagLaws.{starts-le}
 use Rattle.restructured_text.proofs.LabelLaws.{Placed, form-placed, reference-anonymous, reference-named, reference-none}

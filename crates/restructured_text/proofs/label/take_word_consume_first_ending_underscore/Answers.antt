@@ -1,12 +1,11 @@
 -- `take_word_consume_first_ending_underscore` meets its contract: by the last bytes of the run. A run is within the text.
 -- Assumes nothing.
 use mathlib.Core.List.{[], ◌∷◌}
-use mathlib.Core.Logic.{inl, inr, ⊎_elim}
+use mathlib.Core.Logic.{inl, inr}
 use mathlib.Core.Path.{refl, sym, ◌∙◌}
 use native.Mathlib.Omega.{arith}
 use lib.ListN.{take, length-take}
 use lib.Seq.{length-take-le}
-use borrow.Author.Rules.{rules}
 use Rattle.rst_bytes.proofs.WordLaws.{word-within}
 use Rattle.restructured_text.proofs.DelimitedLaws.{ends-le}
 use Rattle.restructured_text.proofs.LabelLaws.{word_two, word-one, word_none}

@@ -3,7 +3,6 @@
 -- Assumes nothing.
 use mathlib.Core.Bool.{false}
 use mathlib.Core.Path.{sym, ◌∙◌}
-use borrow.Author.Rules.{rules}
 use Rattle.restructured_text.proofs.StringsLaws.{linked-shared, linked-first}
 use Rattle.restructured_text.proofs.scratch.shared.Goals as goal
 

@@ -1,6 +1,5 @@
 -- `inline::transform` meets its contract: it is one of the two transforms, and what that wrote stands at the front.
 -- Assumes nothing.
-use borrow.Author.Rules.{rules}
 use Rattle.restructured_text.proofs.TransformLaws.{transform-destination, transform-text}
 use Rattle.restructured_text.proofs.scratch.transform.Goals as goal
 

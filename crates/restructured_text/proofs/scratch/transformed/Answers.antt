@@ -2,7 +2,6 @@
 -- before it; the second leaves the first one's string as it was.
 -- Assumes nothing.
 use mathlib.Core.Path.{sym, ◌∙◌}
-use borrow.Author.Rules.{rules}
 use Rattle.restructured_text.proofs.StringsLaws.{linked-both, linked-first, linked-second}
 use Rattle.restructured_text.proofs.scratch.transformed.Goals as goal
 

@@ -5,7 +5,6 @@
 use mathlib.Core.Path.{sym, ◌∙◌}
 use native.Mathlib.Omega.{arith}
 use lib.Seq.{length-take-le}
-use borrow.Author.Rules.{rules}
 use Rattle.restructured_text.proofs.TargetLaws.{anonymous-stands, anonymous-refused, anonymous-dead, anonymous-told}
 use Rattle.restructured_text.proofs.target.anonymous_target.Goals as goal
 

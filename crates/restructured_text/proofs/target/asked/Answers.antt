@@ -1,7 +1,6 @@
 -- `target::asked` meets its contract: `asked_of` by what the block defines and by the flag.
 -- Assumes nothing.
 use mathlib.Core.Path.{refl}
-use borrow.Author.Rules.{rules}
 use Rattle.restructured_text.proofs.TargetLaws.{asked-alias, asked-destination, asked-either}
 use Rattle.restructured_text.proofs.target.asked.Goals as goal
 

@@ -3,7 +3,6 @@
 -- `named_target` and `anonymous_target` ask.
 -- Assumes nothing.
 use native.Mathlib.Omega.{arith}
-use borrow.Author.Rules.{rules}
 use Rattle.restructured_text.proofs.TargetLaws.{block_room, target-named, target-no-room, target-anonymous, target_none, target-no-room₂}
 use Rattle.restructured_text.proofs.target.block_target.Goals as goal
 

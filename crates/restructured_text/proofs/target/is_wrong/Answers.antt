@@ -2,13 +2,8 @@
 -- `kept_of` at i for each way through the body. The measure is twice what is left, and one more where bytes are passed at once, for these may
 -- be none.
 -- Assumes nothing.
-use Prim.Native.Nat.{◌≤◌, ◌+◌, ◌-◌}
-use mathlib.Core.Path.{◌≡◌, refl, sym, ◌∙◌}
+use mathlib.Core.Path.{refl, sym, ◌∙◌}
 use native.Mathlib.Omega.{arith}
-use lib.ListN.{length, drop}
-use borrow.Author.Rules.{rules}
-use Rattle.restructured_text.specs.Inner.{is_refused}
-use Rattle.restructured_text.specs.Transform.{kept_of}
 use Rattle.restructured_text.proofs.TransformLaws.{kept-end, kept-last, kept-other, kept-two, kept-bad, kept-passed}
 use Rattle.restructured_text.proofs.target.is_wrong.Goals as goal
 

@@ -3,13 +3,10 @@
 -- be none.
 -- Assumes nothing.
 use Prim.Native.Nat.{◌≤◌, ◌+◌, ◌-◌}
-use mathlib.Core.Path.{◌≡◌, refl, sym, ◌∙◌}
-use native.Mathlib.Omega.{arith}
+use mathlib.Core.Path.{◌≡◌}
 use lib.ListN.{length, drop}
-use borrow.Author.Rules.{rules}
 use Rattle.restructured_text.specs.Inner.{is_refused}
 use Rattle.restructured_text.specs.Transform.{kept_of}
-use Rattle.restructured_text.proofs.TransformLaws.{kept-end, kept-last, kept-other, kept-two, kept-bad, kept-passed}
 use Rattle.restructured_text.proofs.target.is_wrong.Given as goal
 
 abbrev pub invariant-loop-i : goal.invariant-loop-i

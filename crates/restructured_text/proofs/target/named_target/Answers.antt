@@ -6,7 +6,6 @@ use mathlib.Core.Path.{sym, ◌∙◌}
 use native.Mathlib.Omega.{arith}
 use lib.ListN.{take}
 use lib.Seq.{length-take-le}
-use borrow.Author.Rules.{rules}
 use Rattle.rst_bytes.proofs.Lists.{part-from}
 use Rattle.restructured_text.proofs.TargetLaws.{name-within, nameless, named-stands, named-inside, named-dead, named-told}
 use Rattle.restructured_text.proofs.target.named_target.Goals as goal

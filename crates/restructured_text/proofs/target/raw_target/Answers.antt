@@ -1,7 +1,6 @@
 -- `target::raw_target` meets its contract: `raw_of` by the simple label at the front.
 -- Assumes nothing.
 use mathlib.Core.Path.{refl, sym, ◌∙◌}
-use borrow.Author.Rules.{rules}
 use Rattle.restructured_text.proofs.TargetLaws.{raw-is}
 use Rattle.restructured_text.proofs.target.raw_target.Goals as goal
 

@@ -1,7 +1,6 @@
 -- `target::rest_target` meets its contract: `rest_of` by what is asked for and by the simple label at the front.
 -- Assumes nothing.
 use mathlib.Core.Path.{sym, ◌∙◌}
-use borrow.Author.Rules.{rules}
 use Rattle.restructured_text.proofs.TargetLaws.{rest-label, rest_all}
 use Rattle.restructured_text.proofs.target.rest_target.Goals as goal
 

@@ -1,7 +1,6 @@
 -- `target::rst_label2dest` meets its contract: it is `rst_label2target` with a destination.
 -- Assumes nothing.
 use mathlib.Core.Path.{◌∙◌}
-use borrow.Author.Rules.{rules}
 use Rattle.restructured_text.proofs.TargetLaws.{dest-lent}
 use Rattle.restructured_text.proofs.target.rst_label2dest.Goals as goal
 

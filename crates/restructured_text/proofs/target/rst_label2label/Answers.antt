@@ -1,7 +1,6 @@
 -- `target::rst_label2label` meets its contract: it is `rst_label2target` with an alias.
 -- Assumes nothing.
 use mathlib.Core.Path.{◌∙◌}
-use borrow.Author.Rules.{rules}
 use Rattle.restructured_text.proofs.TargetLaws.{label-lent}
 use Rattle.restructured_text.proofs.target.rst_label2label.Goals as goal
 

@@ -1,6 +1,5 @@
 -- `target::rst_label2target` meets its contract: what is asked for of what the reader of both gave.
 -- Assumes nothing.
-use borrow.Author.Rules.{rules}
 use Rattle.restructured_text.proofs.TargetLaws.{asked-both}
 use Rattle.restructured_text.proofs.target.rst_label2target.Goals as goal
 

@@ -3,7 +3,6 @@
 -- Assumes nothing.
 use mathlib.Core.Path.{sym, ◌∙◌}
 use native.Mathlib.Omega.{arith}
-use borrow.Author.Rules.{rules}
 use Rattle.rst_bytes.proofs.Lists.{part-from}
 use Rattle.restructured_text.proofs.TargetLaws.{name-within, target-within, parse-none, parse-rest}
 use Rattle.restructured_text.proofs.target.rst_parse_label2target.Goals as goal

@@ -1,7 +1,6 @@
 -- `target::rst_target` meets its contract: that of the block's reader; and where no target starts there is none.
 -- Assumes nothing.
 use mathlib.Core.Path.{sym, ◌∙◌}
-use borrow.Author.Rules.{rules}
 use Rattle.restructured_text.specs.Target.{label2label_of, label2dest_of}
 use Rattle.restructured_text.proofs.StringsLaws.{lent-short, lent-enough}
 use Rattle.restructured_text.proofs.TargetLaws.{dest-lent, label-lent, no-label, no-destination}

@@ -1,7 +1,6 @@
 -- `target::starts_target` meets its contract: `starts_target` by the code's two tests.
 -- Assumes nothing.
 use mathlib.Core.Path.{refl, sym, ◌∙◌}
-use borrow.Author.Rules.{rules}
 use Rattle.restructured_text.proofs.BlockLaws.{indent-le}
 use Rattle.restructured_text.proofs.TargetLaws.{starts-named, starts-anonymous}
 use Rattle.restructured_text.proofs.target.starts_target.Goals as goal

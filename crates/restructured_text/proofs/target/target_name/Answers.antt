@@ -4,7 +4,6 @@
 use Prim.Native.Nat.{◌+◌}
 use mathlib.Core.Path.{◌≡◌, sym, ap, ◌∙◌}
 use native.Mathlib.Omega.{arith}
-use borrow.Author.Rules.{rules}
 use Rattle.restructured_text.specs.declared.target.Name.TheVariants.{Is}
 use Rattle.restructured_text.proofs.DelimitedLaws.{delimited-within}
 use Rattle.restructured_text.proofs.TargetLaws.{name-quoted, name-plain}

@@ -1,6 +1,5 @@
 -- `target::told` meets its contract: `told_as` by what was found and by the flag.
 -- Assumes nothing.
-use borrow.Author.Rules.{rules}
 use Rattle.restructured_text.proofs.TargetLaws.{told-alias, told-destination}
 use Rattle.restructured_text.proofs.target.told.Goals as goal
 

@@ -7,7 +7,6 @@ use mathlib.Core.Path.{sym, ap, ◌∙◌}
 use native.Mathlib.Omega.{arith}
 use lib.ListN.{length, take, drop, length-drop}
 use lib.Seq.{length-take-le}
-use borrow.Author.Rules.{rules}
 use Rattle.rst_bytes.proofs.EscapedLaws.{taken-le}
 use Rattle.rst_bytes.proofs.Lists.{part-from}
 use Rattle.restructured_text.proofs.DelimitedLaws.{delimited-within}

@@ -6,7 +6,6 @@ use mathlib.Core.List.{[]}
 use mathlib.Core.Path.{sym, ap, subst, ◌∙◌}
 use native.Mathlib.Omega.{arith}
 use lib.ListN.{length, take, drop, length-take}
-use borrow.Author.Rules.{rules}
 use Rattle.rst_bytes.proofs.Lists.{part-from}
 use Rattle.restructured_text.proofs.DelimitedLaws.{backticked-within}
 use Rattle.restructured_text.proofs.Text2targetLaws.{part-one, Apart, inside-apart, form-none, form-follows, form-wrong, form-parsed}

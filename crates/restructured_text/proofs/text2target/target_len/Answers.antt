@@ -2,7 +2,6 @@
 -- Assumes nothing.
 use mathlib.Core.List.{[], ◌∷◌}
 use mathlib.Core.Path.{sym, ◌∙◌}
-use borrow.Author.Rules.{rules}
 use Rattle.restructured_text.proofs.DelimitedLaws.{ends-le}
 use Rattle.restructured_text.proofs.Text2targetLaws.{target-dropped, target-no-destination, target-no-label, target-all}
 use Rattle.restructured_text.proofs.text2target.target_len.Goals as goal

@@ -3,7 +3,6 @@
 use mathlib.Core.Path.{ap}
 use mathlib.Core.Bool.{not, or-false}
 use native.Mathlib.Omega.{arith}
-use borrow.Author.Rules.{rules}
 use borrow.Author.Tests.{ne_eqb}
 use Rattle.rst_bytes.specs.Line.{is_multispace}
 use Rattle.restructured_text.specs.Inner.{is_bare}

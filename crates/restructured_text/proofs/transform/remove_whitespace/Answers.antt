@@ -2,14 +2,10 @@
 -- text is as it was, and what was written stands before what the rest gives. One law of the definition at i for each way through
 -- the body; an escape writes its two bytes. The measure is what is left to read.
 -- Assumes nothing.
-use Prim.Native.Nat.{◌-◌}
 use mathlib.Core.Path.{sym, ◌∙◌}
 use native.Mathlib.Omega.{arith}
 use lib.Seq.{lt-length-set}
-use lib.ListN.{length}
-use borrow.Author.Rules.{rules}
-use Rattle.restructured_text.specs.Transform.{kept_of}
-use Rattle.restructured_text.proofs.TransformLaws.{At, kept-start, skip, write, write_two, ends-bad, ends-well, at-end, at-alone, at-wrong, at-two, at-blank, at-unblank}
+use Rattle.restructured_text.proofs.TransformLaws.{kept-start, skip, write, write_two, ends-bad, ends-well, at-end, at-alone, at-wrong, at-two, at-blank, at-unblank}
 use Rattle.restructured_text.proofs.transform.remove_whitespace.Goals as goal
 
 pub loop-i-init : goal.loop-i-init

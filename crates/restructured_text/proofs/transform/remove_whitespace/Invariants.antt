@@ -3,13 +3,9 @@
 -- the body; an escape writes its two bytes. The measure is what is left to read.
 -- Assumes nothing.
 use Prim.Native.Nat.{◌-◌}
-use mathlib.Core.Path.{sym, ◌∙◌}
-use native.Mathlib.Omega.{arith}
-use lib.Seq.{lt-length-set}
 use lib.ListN.{length}
-use borrow.Author.Rules.{rules}
 use Rattle.restructured_text.specs.Transform.{kept_of}
-use Rattle.restructured_text.proofs.TransformLaws.{At, kept-start, skip, write, write_two, ends-bad, ends-well, at-end, at-alone, at-wrong, at-two, at-blank, at-unblank}
+use Rattle.restructured_text.proofs.TransformLaws.{At}
 use Rattle.restructured_text.proofs.transform.remove_whitespace.Given as goal
 
 abbrev pub invariant-loop-i : goal.invariant-loop-i

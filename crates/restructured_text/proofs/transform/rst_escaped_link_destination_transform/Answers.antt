@@ -3,7 +3,6 @@
 -- Assumes nothing.
 use mathlib.Core.Path.{sym, ◌∙◌}
 use lib.Seq.{length-take-le}
-use borrow.Author.Rules.{rules}
 use Rattle.restructured_text.proofs.TransformLaws.{kept-within, destination-part, destination-wrong}
 use Rattle.restructured_text.proofs.transform.rst_escaped_link_destination_transform.Goals as goal
 

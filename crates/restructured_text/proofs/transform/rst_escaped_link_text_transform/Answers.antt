@@ -1,6 +1,5 @@
 -- `transform::rst_escaped_link_text_transform` meets its contract: it is `unescape` that drops spaces, by definition.
 -- Assumes nothing.
-use borrow.Author.Rules.{rules}
 use Rattle.restructured_text.specs.Transform.{text_of}
 use Rattle.restructured_text.proofs.transform.rst_escaped_link_text_transform.Goals as goal
 

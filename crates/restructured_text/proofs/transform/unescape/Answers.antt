@@ -2,13 +2,9 @@
 -- it was, and what was written stands before what the rest gives. One law of the definition at i for each way through the body.
 -- The measure is what is left to read.
 -- Assumes nothing.
-use Prim.Native.Nat.{◌-◌}
 use mathlib.Core.Path.{sym, ◌∙◌}
 use native.Mathlib.Omega.{arith}
-use lib.ListN.{length}
-use borrow.Author.Rules.{rules}
-use Rattle.restructured_text.specs.Transform.{unescaped_of}
-use Rattle.restructured_text.proofs.TransformLaws.{At, unescaped-start, skip, write, ends-bad, ends-well, at-end, at-alone, at_other, at-wrong, at_byte, at-nothing}
+use Rattle.restructured_text.proofs.TransformLaws.{unescaped-start, skip, write, ends-bad, ends-well, at-end, at-alone, at_other, at-wrong, at_byte, at-nothing}
 use Rattle.restructured_text.proofs.transform.unescape.Goals as goal
 
 pub loop-i-init : goal.loop-i-init

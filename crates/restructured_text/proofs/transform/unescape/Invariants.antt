@@ -3,12 +3,9 @@
 -- The measure is what is left to read.
 -- Assumes nothing.
 use Prim.Native.Nat.{◌-◌}
-use mathlib.Core.Path.{sym, ◌∙◌}
-use native.Mathlib.Omega.{arith}
 use lib.ListN.{length}
-use borrow.Author.Rules.{rules}
 use Rattle.restructured_text.specs.Transform.{unescaped_of}
-use Rattle.restructured_text.proofs.TransformLaws.{At, unescaped-start, skip, write, ends-bad, ends-well, at-end, at-alone, at_other, at-wrong, at_byte, at-nothing}
+use Rattle.restructured_text.proofs.TransformLaws.{At}
 use Rattle.restructured_text.proofs.transform.unescape.Given as goal
 
 abbrev pub invariant-loop-i : goal.invariant-loop-i

@@ -4,7 +4,6 @@ use mathlib.Core.Path.{sym, ◌∙◌}
 use Prim.Native.Nat.{◌+◌}
 use lib.ListN.{get_or}
 use native.Mathlib.Omega.{arith}
-use borrow.Author.Rules.{rules}
 use Rattle.rst_bytes.proofs.DomainLaws.{Bounds, pair-bounds, at-end, at_one, at_last, at_pair, at_none}
 use Rattle.rst_bytes.proofs.domain.char_at.Goals as goal
 

@@ -1,12 +1,9 @@
 -- `first_outside` meets its contract: where every byte is below 80 each is a character. Else the loop's invariant: the characters up to
 -- i are passed, and the run goes on at i.
 -- Assumes nothing.
-use Prim.Native.Nat.{◌≤◌, ◌-◌}
-use mathlib.Core.Path.{◌≡◌, refl, sym, ◌∙◌}
+use mathlib.Core.Path.{refl, sym, ◌∙◌}
 use native.Mathlib.Omega.{arith}
-use borrow.Author.Rules.{rules}
-use lib.ListN.{length, drop}
-use Rattle.rst_bytes.specs.Domain.{run, any}
+use Rattle.rst_bytes.specs.Domain.{any}
 use Rattle.rst_bytes.proofs.DomainLaws.{char-at-within, at-taken, outside-at, outside-nowhere, outside-ascii}
 use Rattle.rst_bytes.proofs.domain.first_outside.Goals as goal
 

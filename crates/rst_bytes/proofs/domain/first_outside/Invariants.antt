@@ -2,12 +2,9 @@
 -- i are passed, and the run goes on at i.
 -- Assumes nothing.
 use Prim.Native.Nat.{◌≤◌, ◌-◌}
-use mathlib.Core.Path.{◌≡◌, refl, sym, ◌∙◌}
-use native.Mathlib.Omega.{arith}
-use borrow.Author.Rules.{rules}
+use mathlib.Core.Path.{◌≡◌}
 use lib.ListN.{length, drop}
 use Rattle.rst_bytes.specs.Domain.{run, any}
-use Rattle.rst_bytes.proofs.DomainLaws.{char-at-within, at-taken, outside-at, outside-nowhere, outside-ascii}
 use Rattle.rst_bytes.proofs.domain.first_outside.Given as goal
 
 abbrev pub invariant-loop-i : goal.invariant-loop-i

@@ -1,14 +1,7 @@
 -- `is_ascii` meets its contract. The loop's invariant: every byte is below 80 if and only if the greatest up to i and all from i on are.
 -- Assumes nothing.
-use Prim.Native.Nat.{◌≤◌, ◌-◌}
-use mathlib.Core.Path.{◌≡◌, refl, sym, ◌∙◌}
-use mathlib.Core.Logic.{⊎_elim}
-use mathlib.Core.Bool.{◌&&◌}
+use mathlib.Core.Path.{refl, sym, ◌∙◌}
 use native.Mathlib.Omega.{arith}
-use borrow.Author.Rules.{rules}
-use lib.Dec.{ltb}
-use lib.ListN.{length, drop}
-use Rattle.rst_bytes.specs.Inner.{is_ascii}
 use Rattle.rst_bytes.proofs.DomainLaws.{ascii-same, ascii_more, ascii-end}
 use Rattle.rst_bytes.proofs.domain.is_ascii.Goals as goal
 use Rattle.rst_bytes.proofs.domain.is_ascii.Goals.{then-top-b, else-top-b}
@@ -23,8 +16,8 @@ loop-i-preserved c =
       omega arith,
       l.invariant.1
           ∙ elim c.if-top-b.branch [
-            then-top-b w ↦ rw w.top-is (ascii_more s l.i l.top (omega arith) w.if-top-b.true)
-          | else-top-b w ↦ rw w.top-is (ascii-same s l.i l.top (omega arith) w.if-top-b.false)
+            | then-top-b w ↦ rw w.top-is (ascii_more s l.i l.top (omega arith) w.if-top-b.true)
+            | else-top-b w ↦ rw w.top-is (ascii-same s l.i l.top (omega arith) w.if-top-b.false)
           ],
     )
 

@@ -1,15 +1,11 @@
 -- `is_ascii` meets its contract. The loop's invariant: every byte is below 80 if and only if the greatest up to i and all from i on are.
 -- Assumes nothing.
 use Prim.Native.Nat.{◌≤◌, ◌-◌}
-use mathlib.Core.Path.{◌≡◌, refl, sym, ◌∙◌}
-use mathlib.Core.Logic.{⊎_elim}
+use mathlib.Core.Path.{◌≡◌}
 use mathlib.Core.Bool.{◌&&◌}
-use native.Mathlib.Omega.{arith}
-use borrow.Author.Rules.{rules}
 use lib.Dec.{ltb}
 use lib.ListN.{length, drop}
 use Rattle.rst_bytes.specs.Inner.{is_ascii}
-use Rattle.rst_bytes.proofs.DomainLaws.{ascii-same, ascii_more, ascii-end}
 use Rattle.rst_bytes.proofs.domain.is_ascii.Given as goal
 
 abbrev pub invariant-loop-i : goal.invariant-loop-i

@@ -2,7 +2,6 @@
 -- Assumes nothing.
 use mathlib.Core.Path.{sym, ◌∙◌}
 use native.Mathlib.Omega.{arith}
-use borrow.Author.Rules.{rules}
 use Rattle.rst_bytes.proofs.EscapedLaws.{none, first-stop, first-other}
 use Rattle.rst_bytes.proofs.escaped.escaped.Goals as goal
 

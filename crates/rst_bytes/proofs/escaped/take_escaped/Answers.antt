@@ -2,13 +2,8 @@
 -- taken from i on, i bytes being taken. One law of `taking` at i for each way through the body. The measure is twice what is left, and one
 -- more where bytes are taken at once, for these may be none.
 -- Assumes nothing.
-use Prim.Native.Nat.{◌≤◌, ◌+◌, ◌-◌}
-use mathlib.Core.Bool.{false}
-use mathlib.Core.Path.{◌≡◌, refl, sym, ◌∙◌}
+use mathlib.Core.Path.{refl, sym, ◌∙◌}
 use native.Mathlib.Omega.{arith}
-use lib.ListN.{length, drop}
-use borrow.Author.Rules.{rules}
-use Rattle.rst_bytes.specs.Escaped.{taking}
 use Rattle.rst_bytes.proofs.EscapedLaws.{taking-passed, at-end, at_plain, at-stop, at-alone, at_pair, at-wrong}
 use Rattle.rst_bytes.proofs.escaped.take_escaped.Goals as goal
 

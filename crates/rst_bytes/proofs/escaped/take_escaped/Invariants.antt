@@ -4,12 +4,9 @@
 -- Assumes nothing.
 use Prim.Native.Nat.{◌≤◌, ◌+◌, ◌-◌}
 use mathlib.Core.Bool.{false}
-use mathlib.Core.Path.{◌≡◌, refl, sym, ◌∙◌}
-use native.Mathlib.Omega.{arith}
+use mathlib.Core.Path.{◌≡◌}
 use lib.ListN.{length, drop}
-use borrow.Author.Rules.{rules}
 use Rattle.rst_bytes.specs.Escaped.{taking}
-use Rattle.rst_bytes.proofs.EscapedLaws.{taking-passed, at-end, at_plain, at-stop, at-alone, at_pair, at-wrong}
 use Rattle.rst_bytes.proofs.escaped.take_escaped.Given as goal
 
 abbrev pub invariant-loop-i : goal.invariant-loop-i

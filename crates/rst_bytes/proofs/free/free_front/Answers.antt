@@ -1,13 +1,8 @@
 -- `free::free_front` meets its contract. The loop's invariant is the contract at i; a step of 16 bytes keeps it, if both tests hold. The
 -- measure is what is left.
 -- Assumes nothing.
-use Prim.Native.Nat.{◌≤◌, ◌-◌}
-use mathlib.Core.Bool.{true}
-use mathlib.Core.Path.{◌≡◌, sym, ◌∙◌}
+use mathlib.Core.Path.{sym, ◌∙◌}
 use native.Mathlib.Omega.{arith}
-use lib.ListN.{length, take}
-use borrow.Author.Rules.{rules}
-use Rattle.rst_bytes.specs.Appending.{free}
 use Rattle.rst_bytes.proofs.FreeLaws.{free-nil, free_step}
 use Rattle.rst_bytes.proofs.free.free_front.Goals as goal
 

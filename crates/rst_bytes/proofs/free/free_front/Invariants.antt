@@ -3,12 +3,9 @@
 -- Assumes nothing.
 use Prim.Native.Nat.{◌≤◌, ◌-◌}
 use mathlib.Core.Bool.{true}
-use mathlib.Core.Path.{◌≡◌, sym, ◌∙◌}
-use native.Mathlib.Omega.{arith}
+use mathlib.Core.Path.{◌≡◌}
 use lib.ListN.{length, take}
-use borrow.Author.Rules.{rules}
 use Rattle.rst_bytes.specs.Appending.{free}
-use Rattle.rst_bytes.proofs.FreeLaws.{free-nil, free_step}
 use Rattle.rst_bytes.proofs.free.free_front.Given as goal
 
 abbrev pub invariant-loop-i : goal.invariant-loop-i

@@ -1,13 +1,9 @@
 -- `free::is_free` meets its contract. The loop's invariant: the answer is what was found before i and that of what is left from i on.
 -- One law of `free` at i for each way through the body. The measure is what is left.
 -- Assumes nothing.
-use Prim.Native.Nat.{◌≤◌, ◌-◌}
 use mathlib.Core.Bool.{Bool, ◌&&◌}
-use mathlib.Core.Path.{◌≡◌, refl, sym, ap, ◌∙◌}
+use mathlib.Core.Path.{refl, sym, ap, ◌∙◌}
 use native.Mathlib.Omega.{arith}
-use lib.ListN.{length, drop}
-use borrow.Author.Rules.{rules}
-use Rattle.rst_bytes.specs.Appending.{free}
 use Rattle.rst_bytes.proofs.TestLaws.{and-missed, and_kept}
 use Rattle.rst_bytes.proofs.FreeLaws.{free-done, free-stop, free-plain}
 use Rattle.rst_bytes.proofs.free.is_free.Goals as goal

@@ -2,14 +2,10 @@
 -- One law of `free` at i for each way through the body. The measure is what is left.
 -- Assumes nothing.
 use Prim.Native.Nat.{◌≤◌, ◌-◌}
-use mathlib.Core.Bool.{Bool, ◌&&◌}
-use mathlib.Core.Path.{◌≡◌, refl, sym, ap, ◌∙◌}
-use native.Mathlib.Omega.{arith}
+use mathlib.Core.Bool.{◌&&◌}
+use mathlib.Core.Path.{◌≡◌}
 use lib.ListN.{length, drop}
-use borrow.Author.Rules.{rules}
 use Rattle.rst_bytes.specs.Appending.{free}
-use Rattle.rst_bytes.proofs.TestLaws.{and-missed, and_kept}
-use Rattle.rst_bytes.proofs.FreeLaws.{free-done, free-stop, free-plain}
 use Rattle.rst_bytes.proofs.free.is_free.Given as goal
 
 abbrev pub invariant-loop-i : goal.invariant-loop-i

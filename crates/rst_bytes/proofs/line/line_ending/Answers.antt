@@ -2,7 +2,6 @@
 -- Assumes nothing.
 use mathlib.Core.Path.{sym}
 use native.Mathlib.Omega.{arith}
-use borrow.Author.Rules.{rules}
 use Rattle.rst_bytes.proofs.LineLaws.{ending-none, ending-lf, ending-alone, ending-crlf, ending-cr, ending-other}
 use Rattle.rst_bytes.proofs.line.line_ending.Goals as goal
 

@@ -2,12 +2,9 @@
 -- being counted. One law of `bytes_from` at i for each way through the body. The measure is what is left.
 -- Assumes nothing.
 use Prim.Native.Nat.{◌≤◌, ◌-◌}
-use mathlib.Core.Path.{◌≡◌, refl, sym, ◌∙◌}
-use native.Mathlib.Omega.{arith}
+use mathlib.Core.Path.{◌≡◌}
 use lib.ListN.{length, drop}
-use borrow.Author.Rules.{rules}
 use Rattle.rst_bytes.specs.Line.{is_multispace, bytes_from}
-use Rattle.rst_bytes.proofs.LineLaws.{bytes-end, bytes-pass, bytes-stop}
 use Rattle.rst_bytes.proofs.line.multispace0.Given as goal
 
 abbrev pub invariant-loop-i : goal.invariant-loop-i

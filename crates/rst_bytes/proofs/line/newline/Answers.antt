@@ -2,7 +2,6 @@
 -- Assumes nothing.
 use mathlib.Core.Path.{sym}
 use native.Mathlib.Omega.{arith}
-use borrow.Author.Rules.{rules}
 use Rattle.rst_bytes.proofs.LineLaws.{newline-none, newline-first, newline-other}
 use Rattle.rst_bytes.proofs.line.newline.Goals as goal
 

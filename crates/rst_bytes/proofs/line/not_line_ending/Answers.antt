@@ -2,12 +2,8 @@
 -- bytes being passed; so it is behind the bytes that are neither LF nor CR. One law of `line_from` at i for each way through the
 -- body. The measure is what is left.
 -- Assumes nothing.
-use Prim.Native.Nat.{◌≤◌, ◌-◌}
-use mathlib.Core.Path.{◌≡◌, sym, ◌∙◌}
+use mathlib.Core.Path.{sym, ◌∙◌}
 use native.Mathlib.Omega.{arith}
-use lib.ListN.{length, drop}
-use borrow.Author.Rules.{rules}
-use Rattle.rst_bytes.specs.Line.{line_from}
 use Rattle.rst_bytes.proofs.LineLaws.{line-skipped, line-end, line-lf, line-alone, line-crlf, line-cr, line_plain}
 use Rattle.rst_bytes.proofs.line.not_line_ending.Goals as goal
 

@@ -3,12 +3,9 @@
 -- body. The measure is what is left.
 -- Assumes nothing.
 use Prim.Native.Nat.{◌≤◌, ◌-◌}
-use mathlib.Core.Path.{◌≡◌, sym, ◌∙◌}
-use native.Mathlib.Omega.{arith}
+use mathlib.Core.Path.{◌≡◌}
 use lib.ListN.{length, drop}
-use borrow.Author.Rules.{rules}
 use Rattle.rst_bytes.specs.Line.{line_from}
-use Rattle.rst_bytes.proofs.LineLaws.{line-skipped, line-end, line-lf, line-alone, line-crlf, line-cr, line_plain}
 use Rattle.rst_bytes.proofs.line.not_line_ending.Given as goal
 
 abbrev pub invariant-loop-i : goal.invariant-loop-i

@@ -1,7 +1,6 @@
 -- `line::space1` meets its contract: `space1_of` by whether `space0` counts none.
 -- Assumes nothing.
 use mathlib.Core.Path.{sym, ◌∙◌, ap}
-use borrow.Author.Rules.{rules}
 use Rattle.rst_bytes.specs.declared.Part.TheVariants.{Taken}
 use Rattle.rst_bytes.proofs.LineLaws.{space1-none, space1-some}
 use Rattle.rst_bytes.proofs.line.space1.Goals as goal

@@ -2,13 +2,9 @@
 -- before i and that for what is left of both from i on. One law of `starts_with` at i for each way through the body. The measure is what
 -- is left of the second.
 -- Assumes nothing.
-use Prim.Native.Nat.{◌≤◌, ◌-◌}
 use mathlib.Core.Bool.{Bool, ◌&&◌}
-use mathlib.Core.Path.{◌≡◌, refl, sym, ap, ◌∙◌}
+use mathlib.Core.Path.{refl, sym, ap, ◌∙◌}
 use native.Mathlib.Omega.{arith}
-use lib.ListN.{length, drop}
-use borrow.Author.Rules.{rules}
-use Rattle.rst_bytes.specs.Tag.{starts_with}
 use Rattle.rst_bytes.proofs.TestLaws.{and-missed, and_kept}
 use Rattle.rst_bytes.proofs.TagLaws.{starts-shorter, tag-done, tag-other, tag-next}
 use Rattle.rst_bytes.proofs.tag.tag.Goals as goal

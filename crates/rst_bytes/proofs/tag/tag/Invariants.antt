@@ -3,14 +3,10 @@
 -- is left of the second.
 -- Assumes nothing.
 use Prim.Native.Nat.{◌≤◌, ◌-◌}
-use mathlib.Core.Bool.{Bool, ◌&&◌}
-use mathlib.Core.Path.{◌≡◌, refl, sym, ap, ◌∙◌}
-use native.Mathlib.Omega.{arith}
+use mathlib.Core.Bool.{◌&&◌}
+use mathlib.Core.Path.{◌≡◌}
 use lib.ListN.{length, drop}
-use borrow.Author.Rules.{rules}
 use Rattle.rst_bytes.specs.Tag.{starts_with}
-use Rattle.rst_bytes.proofs.TestLaws.{and-missed, and_kept}
-use Rattle.rst_bytes.proofs.TagLaws.{starts-shorter, tag-done, tag-other, tag-next}
 use Rattle.rst_bytes.proofs.tag.tag.Given as goal
 
 abbrev pub invariant-loop-i : goal.invariant-loop-i

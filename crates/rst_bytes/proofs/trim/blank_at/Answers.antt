@@ -1,7 +1,6 @@
 -- `blank_at` meets its contract: each way out is one case of `blank_of`.
 -- Assumes nothing.
 use mathlib.Core.Path.{sym, ◌∙◌}
-use borrow.Author.Rules.{rules}
 use Rattle.rst_bytes.proofs.TrimLaws.{blank-yes, blank-no, blank_none}
 use Rattle.rst_bytes.proofs.trim.blank_at.Goals as goal
 

@@ -1,12 +1,10 @@
 -- `trim_end` meets its contract. The loop's invariant: only blank characters stand from n on. It ends where no blank character
 -- ends at n, and then n is the length of the trimmed text.
 -- Assumes nothing.
-use Prim.Native.Nat.{ℕ, ◌-◌, ◌≤◌}
-use mathlib.Core.Path.{◌≡◌, sym, ap, ◌∙◌}
-use mathlib.Core.Bool.{true}
+use Prim.Native.Nat.{ℕ, ◌-◌}
+use mathlib.Core.Path.{sym, ap, ◌∙◌}
 use native.Mathlib.Omega.{arith}
-use borrow.Author.Rules.{rules}
-use lib.ListN.{length, drop, take}
+use lib.ListN.{take}
 use lib.Seq.{length-take-le, drop-length}
 use Rattle.rst_bytes.specs.Trim.{blanks}
 use Rattle.rst_bytes.proofs.TrimLaws.{Ends, blanks-none, blanks-back, ends-trim}

@@ -3,13 +3,11 @@
 -- Assumes nothing.
 use Rattle.rst_bytes.proofs.TestLaws.{lt-or-le}
 use Rattle.rst_bytes.proofs.WordLaws.{rises, hit, miss}
-use lib.ListN.{length, get_or}
-use borrow.Author.Rules.{rules}
 use native.Mathlib.Omega.{arith}
 use native.Mathlib.Nat.{lt_of_lt_of_le, lt_of_le_of_lt}
 use mathlib.Core.Logic.{inl, inr, ⊎_elim}
 use mathlib.Core.Path.{sym}
-use Prim.Native.Nat.{ℕ, ◌+◌, ◌-◌, ◌*◌, ◌/◌, ◌≤◌, ◌<◌}
+use Prim.Native.Nat.{◌+◌, ◌-◌, ◌*◌, ◌/◌}
 use Rattle.rst_bytes.proofs.word.in_ranges.Goals as goal
 
 pub loop-lo-init : goal.loop-lo-init

@@ -1,14 +1,7 @@
 -- `in_ranges` meets its contract. The loop's invariant: every range before lo ends below c, and every range from hi on begins
 -- above it; that the table rises carries this over the halves that are left out.
 -- Assumes nothing.
-use Rattle.rst_bytes.proofs.TestLaws.{lt-or-le}
-use Rattle.rst_bytes.proofs.WordLaws.{rises, hit, miss}
 use lib.ListN.{length, get_or}
-use borrow.Author.Rules.{rules}
-use native.Mathlib.Omega.{arith}
-use native.Mathlib.Nat.{lt_of_lt_of_le, lt_of_le_of_lt}
-use mathlib.Core.Logic.{inl, inr, ⊎_elim}
-use mathlib.Core.Path.{sym}
 use Prim.Native.Nat.{ℕ, ◌+◌, ◌-◌, ◌*◌, ◌/◌, ◌≤◌, ◌<◌}
 use Rattle.rst_bytes.proofs.word.in_ranges.Given as goal
 

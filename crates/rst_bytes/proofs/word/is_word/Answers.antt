@@ -1,7 +1,6 @@
 -- `is_word` meets its contract. That the table's ranges are in order and apart is one computed test.
 -- Assumes nothing.
 use mathlib.Core.Path.{sym, ◌∙◌}
-use borrow.Author.Rules.{rules}
 use Rattle.rst_bytes.specs.Word.{word_ranges}
 use Rattle.rst_bytes.specs.Inner.{apart}
 use Rattle.rst_bytes.proofs.WordLaws.{word_low, word-high}

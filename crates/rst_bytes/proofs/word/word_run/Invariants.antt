@@ -1,14 +1,10 @@
 -- `word_run` meets its contract. The loop's invariant: the word characters up to i are passed, and the run goes on at i.
 -- Assumes nothing.
 use Prim.Native.Nat.{◌≤◌, ◌-◌}
-use mathlib.Core.Path.{◌≡◌, refl, sym, ◌∙◌}
-use native.Mathlib.Omega.{arith}
-use borrow.Author.Rules.{rules}
+use mathlib.Core.Path.{◌≡◌}
 use lib.ListN.{length, drop}
 use Rattle.rst_bytes.specs.Domain.{run}
-use Rattle.rst_bytes.specs.Word.{is_word, word_of}
-use Rattle.rst_bytes.proofs.DomainLaws.{char-at-within, at-end, at-taken, run-ended, run_none}
-use Rattle.rst_bytes.proofs.WordLaws.{ascii-taken, ascii-ended}
+use Rattle.rst_bytes.specs.Word.{is_word}
 use Rattle.rst_bytes.proofs.word.word_run.Given as goal
 
 abbrev pub invariant-loop-i : goal.invariant-loop-i

@@ -2,10 +2,6 @@
 -- Assumes nothing.
 use mathlib.Core.Path.{sym, ◌∙◌}
 use native.Mathlib.Omega.{arith}
-use borrow.Author.Rules.{rules}
-use lib.ListN.{length}
-use Prim.Native.Nat.{◌≤◌}
-use Rattle.targetless.specs.Walk.{Indented}
 use Rattle.targetless.proofs.LeafLaws.{indented-none, indented-more}
 use Rattle.targetless.proofs.candidate.blanks_before.Goals as goal
 

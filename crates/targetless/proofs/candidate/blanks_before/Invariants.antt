@@ -1,12 +1,8 @@
 -- `candidate::blanks_before` meets its contract. The loop's invariant: blanks stand from place k on; the measure is k.
 -- Assumes nothing.
-use mathlib.Core.Path.{sym, ◌∙◌}
-use native.Mathlib.Omega.{arith}
-use borrow.Author.Rules.{rules}
 use lib.ListN.{length}
 use Prim.Native.Nat.{◌≤◌}
 use Rattle.targetless.specs.Walk.{Indented}
-use Rattle.targetless.proofs.LeafLaws.{indented-none, indented-more}
 use Rattle.targetless.proofs.candidate.blanks_before.Given as goal
 
 abbrev pub invariant-loop-k : goal.invariant-loop-k

@@ -5,7 +5,6 @@ use Prim.Native.Nat.{◌-◌}
 use native.Mathlib.Omega.{arith}
 use Rattle.rst_bytes.proofs.Lists.{part-from}
 use Rattle.targetless.specs.Walk.{Headed}
-use borrow.Author.Rules.{rules}
 use Rattle.targetless.proofs.candidate.free_at.Goals as goal
 
 pub returns-then-e-lt3 : goal.returns-then-e-lt3

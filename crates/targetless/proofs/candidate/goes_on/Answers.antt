@@ -3,7 +3,6 @@
 use mathlib.Core.Path.{sym, ◌∙◌}
 use Rattle.rst_bytes.proofs.TagLaws.{starts-le}
 use Rattle.targetless.proofs.LeafLaws.{on-other, on-told}
-use borrow.Author.Rules.{rules}
 use Rattle.targetless.proofs.candidate.goes_on.Goals as goal
 
 pub slice_bounds-tag-count : goal.slice_bounds-tag-count

@@ -2,7 +2,6 @@
 -- Assumes nothing.
 use mathlib.Core.Path.{sym, ◌∙◌}
 use Rattle.targetless.proofs.CandidateLaws.{free-blank, free-stroke, free-broken, free-flag, free-dead, free-unnamed}
-use borrow.Author.Rules.{rules}
 use Rattle.targetless.proofs.candidate.is_free.Goals as goal
 
 pub returns-then-here : goal.returns-then-here

@@ -2,7 +2,6 @@
 -- Assumes nothing.
 use mathlib.Core.Path.{sym, ◌∙◌}
 use mathlib.Core.Logic.{inl, inr}
-use borrow.Author.Rules.{rules}
 use Rattle.targetless.proofs.candidate.is_header.Goals as goal
 
 pub returns-then-tag : goal.returns-then-tag

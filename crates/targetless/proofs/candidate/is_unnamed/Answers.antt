@@ -4,7 +4,6 @@ use mathlib.Core.Path.{sym, ◌∙◌}
 use mathlib.Core.Bool.{false≢true}
 use mathlib.Core.Logic.{inl, inr}
 use Rattle.targetless.proofs.CandidateLaws.{told-empty, told-plain, told-quoted}
-use borrow.Author.Rules.{rules}
 use Rattle.targetless.proofs.candidate.is_unnamed.Goals as goal
 
 pub returns-then-tag : goal.returns-then-tag

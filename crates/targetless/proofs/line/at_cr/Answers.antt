@@ -2,7 +2,6 @@
 -- Assumes nothing.
 use Rattle.targetless.proofs.TextLaws.{broken-cr, broken-last}
 use Rattle.targetless.proofs.WalkLaws.{walked-cr, walked-broken}
-use borrow.Author.Rules.{rules}
 use Rattle.targetless.proofs.line.at_cr.Goals as goal
 
 pub returns-then-c-eq10 : goal.returns-then-c-eq10

@@ -4,7 +4,6 @@ use Prim.Native.Nat.{◌+◌}
 use native.Mathlib.Omega.{arith}
 use lib.ListN.{length-drop}
 use Rattle.targetless.proofs.WalkLaws.{walked-lf-refused, walked-lf}
-use borrow.Author.Rules.{rules}
 use Rattle.targetless.proofs.line.at_lf.Goals as goal
 
 pub returns-then-w : goal.returns-then-w

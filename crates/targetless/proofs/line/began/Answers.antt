@@ -1,7 +1,6 @@
 -- `line::began` meets its contract: at the text's end no line follows.
 -- Assumes nothing.
 use Rattle.targetless.proofs.WalkLaws.{walked_end}
-use borrow.Author.Rules.{rules}
 use Rattle.targetless.proofs.line.began.Goals as goal
 
 pub returns : goal.returns

@@ -2,7 +2,6 @@
 -- Assumes nothing.
 use mathlib.Core.Path.{sym, ◌∙◌}
 use Rattle.targetless.proofs.LeafLaws.{front-next, front-own}
-use borrow.Author.Rules.{rules}
 use Rattle.targetless.proofs.line.front_at.Goals as goal
 
 pub returns-then-is_space : goal.returns-then-is_space

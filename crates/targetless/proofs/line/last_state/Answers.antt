@@ -5,7 +5,6 @@ use mathlib.Core.Bool.{false}
 use Rattle.targetless.specs.declared.Verdict.{Verdict}
 use Rattle.targetless.specs.Verdict.{lone_of}
 use Rattle.targetless.proofs.LeafLaws.{state-of}
-use borrow.Author.Rules.{rules}
 use Rattle.targetless.proofs.line.last_state.Goals as goal
 
 pub returns : goal.returns

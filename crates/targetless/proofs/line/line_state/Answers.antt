@@ -1,7 +1,6 @@
 -- `line::line_state` meets its contract: each of its verdicts is that of `over_line`.
 -- Assumes nothing.
 use Rattle.targetless.proofs.LeafLaws.{state-of}
-use borrow.Author.Rules.{rules}
 use Rattle.targetless.proofs.line.line_state.Goals as goal
 
 pub returns : goal.returns

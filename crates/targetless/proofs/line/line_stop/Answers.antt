@@ -8,7 +8,6 @@ use Rattle.targetless.specs.declared.Verdict.{Verdict}
 use Rattle.targetless.specs.Verdict.{both_of, lone_of}
 use Rattle.targetless.specs.Walk.{stop_of}
 use Rattle.targetless.proofs.LeafLaws.{stop-few, stop-front, stop-before}
-use borrow.Author.Rules.{rules}
 use Rattle.targetless.proofs.line.line_stop.Goals as goal
 
 pub returns-then-judged : goal.returns-then-judged

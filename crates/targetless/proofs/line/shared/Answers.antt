@@ -1,12 +1,9 @@
 -- `line::shared` meets its contract. The loop's invariant: the first n bytes are the same at both places; the measure is what is left.
 -- Assumes nothing.
-use Prim.Native.Nat.{◌-◌}
 use mathlib.Core.Path.{sym, ◌∙◌}
 use native.Mathlib.Omega.{arith}
-use borrow.Author.Rules.{rules}
-use lib.ListN.{length}
 use Rattle.restructured_text.proofs.BlockLaws.{from}
-use Rattle.targetless.proofs.LeafLaws.{Alike, alike-more, shared-by}
+use Rattle.targetless.proofs.LeafLaws.{alike-more, shared-by}
 use Rattle.targetless.proofs.line.shared.Goals as goal
 
 pub loop-n-init : goal.loop-n-init

@@ -9,7 +9,6 @@ use Rattle.targetless.specs.Verdict.{Tells}
 use Rattle.targetless.specs.Runs.{is_dead}
 use Rattle.targetless.proofs.TextLaws.{ends-none}
 use Rattle.targetless.proofs.WalkLaws.{front_by, walked-byte, walked-far}
-use borrow.Author.Rules.{rules}
 use Rattle.targetless.proofs.line.stepped.Goals as goal
 
 pub state_at-here-requires : goal.state_at-here-requires

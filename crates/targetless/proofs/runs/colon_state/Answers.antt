@@ -1,13 +1,11 @@
 -- `runs::colon_state` meets its contract: the run over plain names stops there, the others go on.
 -- Assumes nothing.
-use Prim.Native.Nat.{◌+◌}
 use mathlib.Core.Path.{◌≡◌, ap}
 use native.Mathlib.Omega.{arith}
-use lib.ListN.{length, drop, get_or, length-drop}
+use lib.ListN.{get_or}
 use Rattle.targetless.specs.Verdict.{ends_line}
 use Rattle.targetless.proofs.StateLaws.{pass-destination, pass-label, pass-quoted, pass-closed, stop-plain}
 use Rattle.targetless.proofs.SizeLaws.{sized-byte}
-use borrow.Author.Rules.{rules}
 use Rattle.targetless.proofs.runs.colon_state.Goals as goal
 
 -- TODO add-t13 : tie.Need-overflow-add-t13

@@ -1,7 +1,6 @@
 -- `runs::ended_state` meets its contract: each of its verdicts is that of `ended_of`.
 -- Assumes nothing.
 use Rattle.targetless.proofs.LeafLaws.{state-of}
-use borrow.Author.Rules.{rules}
 use Rattle.targetless.proofs.runs.ended_state.Goals as goal
 
 pub returns : goal.returns

@@ -1,14 +1,13 @@
 -- `runs::escape_state` meets its contract: each way is one of what may stand behind the backslash.
 -- Assumes nothing.
 use Prim.Native.Nat.{◌+◌}
-use mathlib.Core.Path.{sym, ap, subst, subst⁻¹, ◌∙◌}
+use mathlib.Core.Path.{sym, ap, subst⁻¹, ◌∙◌}
 use native.Mathlib.Omega.{arith}
 use lib.ListN.{drop, length-drop}
 use Rattle.targetless.specs.declared.State.{State}
 use Rattle.targetless.specs.Runs.{paired_of, StateTells}
 use Rattle.targetless.proofs.SizeLaws.{more}
 use Rattle.targetless.proofs.EscapeLaws.{slash-last, slash-line, slash-pair, slash-wrong}
-use borrow.Author.Rules.{rules}
 use Rattle.targetless.proofs.runs.escape_state.Goals as goal
 
 pub returns-then-s-j : goal.returns-then-s-j

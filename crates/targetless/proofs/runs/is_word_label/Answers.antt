@@ -1,7 +1,6 @@
 -- `runs::is_word_label` meets its contract: a word of two bytes or more tells by its last bytes and its length.
 -- Assumes nothing.
 use Rattle.targetless.proofs.LeafLaws.{labelled-short, last_within, second-within, labelled-not, labelled-two, labelled-one}
-use borrow.Author.Rules.{rules}
 use Rattle.targetless.proofs.runs.is_word_label.Goals as goal
 
 pub returns-then-w-lt2 : goal.returns-then-w-lt2

@@ -8,7 +8,6 @@ use Rattle.targetless.specs.declared.Verdict.{Verdict}
 use Rattle.targetless.specs.Verdict.{either_of, lone_of, Tells}
 use Rattle.targetless.specs.Runs.{no_label}
 use Rattle.targetless.proofs.SizeLaws.{label-short, label-everywhere, label-far}
-use borrow.Author.Rules.{rules}
 use Rattle.targetless.proofs.runs.no_label.Goals as goal
 
 pub returns-then-size-lt1000 : goal.returns-then-size-lt1000

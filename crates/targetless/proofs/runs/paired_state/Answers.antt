@@ -2,7 +2,6 @@
 -- Assumes nothing.
 use mathlib.Core.Path.{refl, ◌∙◌}
 use Rattle.targetless.proofs.LeafLaws.{state-of, paired-all, paired-names}
-use borrow.Author.Rules.{rules}
 use Rattle.targetless.proofs.runs.paired_state.Goals as goal
 
 pub returns-then-everywhere : goal.returns-then-everywhere

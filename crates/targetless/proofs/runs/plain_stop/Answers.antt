@@ -7,7 +7,6 @@ use Rattle.targetless.specs.declared.Verdict.{Verdict}
 use Rattle.targetless.specs.Verdict.{ends_line, Tells}
 use Rattle.targetless.specs.Runs.{plain_stop}
 use Rattle.targetless.proofs.StateLaws.{plain-last, plain_other, plain-target, plain-line}
-use borrow.Author.Rules.{rules}
 use Rattle.targetless.proofs.runs.plain_stop.Goals as goal
 
 pub returns-then-s-j : goal.returns-then-s-j

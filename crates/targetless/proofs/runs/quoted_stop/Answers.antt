@@ -6,7 +6,6 @@ use Rattle.targetless.specs.declared.Verdict.{Verdict}
 use Rattle.targetless.specs.Verdict.{ends_line, Tells}
 use Rattle.targetless.specs.Runs.{quoted_stop}
 use Rattle.targetless.proofs.StateLaws.{quoted-open, quoted-plain}
-use borrow.Author.Rules.{rules}
 use Rattle.targetless.proofs.runs.quoted_stop.Goals as goal
 
 pub returns-then-tag : goal.returns-then-tag

@@ -5,7 +5,6 @@ use native.Mathlib.Omega.{arith}
 use lib.ListN.{length-drop}
 use Rattle.targetless.proofs.StateLaws.{pass-destination, pass-label, pass-plain, pass-quoted, pass-closed}
 use Rattle.targetless.proofs.SizeLaws.{sized-byte}
-use borrow.Author.Rules.{rules}
 use Rattle.targetless.proofs.runs.state_at.Goals as goal
 
 pub target_at-target-requires : goal.target_at-target-requires

@@ -6,7 +6,6 @@ use Rattle.targetless.specs.declared.Verdict.{Verdict}
 use Rattle.targetless.specs.Verdict.{Tells}
 use Rattle.targetless.specs.Runs.{is_dead}
 use Rattle.targetless.proofs.StateLaws.{tells_none, target-two, target-ticked, target-other}
-use borrow.Author.Rules.{rules}
 use Rattle.targetless.proofs.runs.target_at.Goals as goal
 
 pub returns-then-i-eq0 : goal.returns-then-i-eq0

@@ -6,7 +6,6 @@ use lib.ListN.{get_or}
 use Rattle.targetless.specs.Verdict.{ends_line}
 use Rattle.targetless.proofs.StateLaws.{pass-destination, pass-plain, stop-label, stop-quoted, stop-closed}
 use Rattle.targetless.proofs.SizeLaws.{none, sized-tick}
-use borrow.Author.Rules.{rules}
 use Rattle.targetless.proofs.runs.tick_state.Goals as goal
 
 pub target_at-target-requires : goal.target_at-target-requires

@@ -1,7 +1,6 @@
 -- `verdicts::judged` meets its contract: each test is one of `judged_of`.
 -- Assumes nothing.
 use Rattle.targetless.proofs.LeafLaws.{answer-short, answer-long, answer-deep, answer-lone}
-use borrow.Author.Rules.{rules}
 use Rattle.targetless.proofs.verdicts.judged.Goals as goal
 
 pub returns-then-k-lt63 : goal.returns-then-k-lt63

@@ -1,7 +1,6 @@
 -- `verdicts::ones` meets its contract: one shifted by less than 64 places is a power, and one less has the bits below it.
 -- Assumes nothing.
 use Rattle.targetless.proofs.LeafLaws.{ones-all, ones_pos, ones-some}
-use borrow.Author.Rules.{rules}
 use Rattle.targetless.proofs.verdicts.ones.Goals as goal
 
 pub returns-then-n-ge64 : goal.returns-then-n-ge64

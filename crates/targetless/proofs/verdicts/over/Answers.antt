@@ -2,7 +2,6 @@
 -- Assumes nothing.
 use mathlib.Core.Path.{sym, ◌∙◌}
 use Rattle.targetless.proofs.LeafLaws.{over-lone, over-open}
-use borrow.Author.Rules.{rules}
 use Rattle.targetless.proofs.verdicts.over.Goals as goal
 
 pub returns-then-judged : goal.returns-then-judged

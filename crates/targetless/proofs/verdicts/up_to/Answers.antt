@@ -3,7 +3,6 @@
 use mathlib.Core.Path.{ap, ◌∙◌}
 use Rattle.targetless.specs.Verdict.{ones_of}
 use Rattle.targetless.proofs.LeafLaws.{verdict-of}
-use borrow.Author.Rules.{rules}
 use Rattle.targetless.proofs.verdicts.up_to.Goals as goal
 
 pub returns : goal.returns
