@@ -5,4 +5,4 @@ use Rattle.parse.proofs.OnwardLaws.{holds-nothing}
 use Rattle.parse.proofs.take_link.Goals as goal
 
 pub next_link-next-requires : goal.next_link-next-requires
-next_link-next-requires c = holds-nothing c.args.s.now 0 1
+next_link-next-requires c = record { known = holds-nothing c.args.s.now 0 1 }

@@ -31,8 +31,8 @@ returns-then-b-eq96 c = let s = c.args.s.now in record { within = omega arith; b
 pub returns-else-b-eq96 : goal.returns-else-b-eq96
 returns-else-b-eq96 c =
     let s = c.args.s.now in
-    let u = c.unbracketed.ensures.? in
-    let f = barren-first s c.requires.tick c.requires.none _ (ap (taking 0x60 0x3C false 0) (sym (part-from s 1)) ∙ sym c.marked.ensures ∙ c.in-Taken.is) in record { within = omega (arith, u.0); barren = barren-over s _ _ f c.if-b-eq96.false (each-behind (Tick NoLink) s _ _ _ (part-from s _) u.1) }
+    let u = c.unbracketed.ensures in
+    let f = barren-first s c.requires.tick c.requires.none _ (ap (taking 0x60 0x3C false 0) (sym (part-from s 1)) ∙ sym c.marked.ensures ∙ c.in-Taken.is) in record { within = omega (arith, u.within); barren = barren-over s _ _ f c.if-b-eq96.false (each-behind (Tick NoLink) s _ _ _ (part-from s _) u.barren) }
 
 pub returns-in-Refused : goal.returns-in-Refused
 returns-in-Refused c = record { within = omega arith; barren = each_none (Tick NoLink) _ 0 0 (omega arith) }

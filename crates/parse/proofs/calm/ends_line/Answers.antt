@@ -8,9 +8,9 @@ use borrow.Author.Tests.{eq-eqb}
 use Rattle.parse.proofs.calm.ends_line.Goals as goal
 
 pub returns-then-b-eq10 : goal.returns-then-b-eq10
-returns-then-b-eq10 c =
+returns-then-b-eq10 c e =
     let w = c.is_behind.ensures e in
     inr (omega arith, w.0, w.1, eq-eqb _ 10 c.if-b-eq10.true)
 
 pub returns : goal.returns
-returns c = absurd (false≢true e)
+returns c e = absurd (false≢true e)

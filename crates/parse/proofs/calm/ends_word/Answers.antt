@@ -7,9 +7,9 @@ use borrow.Author.Rules.{rules}
 use Rattle.parse.proofs.calm.ends_word.Goals as goal
 
 pub returns-then-is_space : goal.returns-then-is_space
-returns-then-is_space c =
+returns-then-is_space c e =
     let w = c.is_behind.ensures e in
     (omega arith, w.0, w.1, sym c.is_space.ensures ∙ c.if-is_space.true)
 
 pub returns : goal.returns
-returns c = absurd (false≢true e)
+returns c e = absurd (false≢true e)

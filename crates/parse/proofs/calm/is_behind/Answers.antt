@@ -7,7 +7,7 @@ use borrow.Author.Rules.{rules}
 use Rattle.parse.proofs.calm.is_behind.Goals as goal
 
 pub returns-then-j-eq0 : goal.returns-then-j-eq0
-returns-then-j-eq0 c = absurd (false≢true e)
+returns-then-j-eq0 c e = absurd (false≢true e)
 
 pub returns : goal.returns
-returns c = (omega arith, ap not (sym c.is_start.ensures) ∙ e)
+returns c e = (omega arith, ap not (sym c.is_start.ensures) ∙ e)

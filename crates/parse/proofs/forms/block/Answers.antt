@@ -20,4 +20,4 @@ pub returns-in-NoDefinition : goal.returns-in-NoDefinition
 returns-in-NoDefinition c = let e = answered-both c.args.s.now c.args.scratch.now c.rst_target.new.scratch c.rst_target.result _ c.requires c.rst_target.ensures.alias c.rst_target.ensures.destination c.in-NoDefinition.is in record { scan = block-nothing c.args.s.now c.args.skipped e.0 e.1; ends = tt }
 
 pub returns-in-Unread : goal.returns-in-Unread
-returns-in-Unread c = let e = answered-both c.args.s.now c.args.scratch.now c.rst_target.new.scratch c.rst_target.result _ c.requires c.rst_target.ensures.alias c.rst_target.ensures.destination c.in-Unread.is in let pair = absurd (label2label-room c.args.s.now e.0) in record { scan = pair.0; ends = pair.1 }
+returns-in-Unread c = let e = answered-both c.args.s.now c.args.scratch.now c.rst_target.new.scratch c.rst_target.result _ c.requires c.rst_target.ensures.alias c.rst_target.ensures.destination c.in-Unread.is in absurd (label2label-room c.args.s.now e.0)

@@ -20,10 +20,10 @@ returns-in-Found c =
     let w = c.args in
     let e = answered w.s.now w.scratch.now _ _ _ _ c.requires.room c.rst_text2dest.ensures.strings c.in-Found.is in
     let f = subst Ends c.in-Found.is c.rst_text2dest.ensures.ends in
-    let g = c.with_unreported-m.ensures.? in record { scan = embedded-anonymous w.s.now w.skipped _ _ _ _ (e ∙ link-kept _ _ _ _ _ f g.1.0) g.0; ends = (omega (arith, f.0, g.0), omega (arith, f.1, g.0)); free = λ t q. free-behind w.s.now t w.skipped _ _ q g.1.1 }
+    let g = c.with_unreported-m.ensures in record { scan = embedded-anonymous w.s.now w.skipped _ _ _ _ (e ∙ link-kept _ _ _ _ _ f g.kept) g.consumed; ends = (omega (arith, f.0, g.consumed), omega (arith, f.1, g.consumed)); free = λ t q. free-behind w.s.now t w.skipped _ _ q g.free }
 
 pub returns-in-NoRoom : goal.returns-in-NoRoom
-returns-in-NoRoom c = let w = c.args in let pair = absurd (text2dest-room w.s.now (answered w.s.now w.scratch.now _ _ _ _ c.requires.room c.rst_text2dest.ensures.strings c.in-NoRoom.is)) in record { scan = pair.0; ends = pair.1.0; free = pair.1.1 }
+returns-in-NoRoom c = let w = c.args in absurd (text2dest-room w.s.now (answered w.s.now w.scratch.now _ _ _ _ c.requires.room c.rst_text2dest.ensures.strings c.in-NoRoom.is))
 
 pub with_unreported-m-requires-in-Found-rst_text_label2dest : goal.with_unreported-m-requires-in-Found-rst_text_label2dest
 with_unreported-m-requires-in-Found-rst_text_label2dest c =
@@ -36,7 +36,7 @@ returns-in-Found-rst_text_label2dest c =
     let e = answered w.s.now w.scratch.now _ _ _ _ c.requires.room c.rst_text2dest.ensures.strings c.in-NotFound.is in
     let f = answered w.s.now c.rst_text2dest.new.scratch _ _ _ _ (omega (arith, c.requires.room, c.rst_text2dest.auto.scratch)) c.rst_text_label2dest.ensures.strings c.in-Found-rst_text_label2dest.is in
     let g = subst Ends c.in-Found-rst_text_label2dest.is c.rst_text_label2dest.ensures.ends in
-    let h = c.with_unreported-m-in-Found-rst_text_label2dest.ensures.? in record { scan = embedded-named w.s.now w.skipped _ _ _ _ e (f ∙ link-kept _ _ _ _ _ g h.1.0) h.0; ends = (omega (arith, g.0, h.0), omega (arith, g.1, h.0)); free = λ t q. free-behind w.s.now t w.skipped _ _ q h.1.1 }
+    let h = c.with_unreported-m-in-Found-rst_text_label2dest.ensures in record { scan = embedded-named w.s.now w.skipped _ _ _ _ e (f ∙ link-kept _ _ _ _ _ g h.kept) h.consumed; ends = (omega (arith, g.0, h.consumed), omega (arith, g.1, h.consumed)); free = λ t q. free-behind w.s.now t w.skipped _ _ q h.free }
 
 pub returns-in-NotFound-rst_text_label2dest : goal.returns-in-NotFound-rst_text_label2dest
 returns-in-NotFound-rst_text_label2dest c =
@@ -45,4 +45,4 @@ returns-in-NotFound-rst_text_label2dest c =
     let f = answered w.s.now c.rst_text2dest.new.scratch _ _ _ _ (omega (arith, c.requires.room, c.rst_text2dest.auto.scratch)) c.rst_text_label2dest.ensures.strings c.in-NotFound-rst_text_label2dest.is in record { scan = embedded-nothing w.s.now w.skipped e f; ends = tt; free = λ t q. refl }
 
 pub returns-in-NoRoom-rst_text_label2dest : goal.returns-in-NoRoom-rst_text_label2dest
-returns-in-NoRoom-rst_text_label2dest c = let w = c.args in let pair = absurd (text-label2dest-room w.s.now (answered w.s.now c.rst_text2dest.new.scratch _ _ _ _ (omega (arith, c.requires.room, c.rst_text2dest.auto.scratch)) c.rst_text_label2dest.ensures.strings c.in-NoRoom-rst_text_label2dest.is)) in record { scan = pair.0; ends = pair.1.0; free = pair.1.1 }
+returns-in-NoRoom-rst_text_label2dest c = let w = c.args in absurd (text-label2dest-room w.s.now (answered w.s.now c.rst_text2dest.new.scratch _ _ _ _ (omega (arith, c.requires.room, c.rst_text2dest.auto.scratch)) c.rst_text_label2dest.ensures.strings c.in-NoRoom-rst_text_label2dest.is))

@@ -20,10 +20,10 @@ returns-in-Found c =
     let w = c.args in
     let e = answered w.s.now w.scratch.now _ _ _ _ c.requires.room c.rst_text2label.ensures.strings c.in-Found.is in
     let f = subst Ends c.in-Found.is c.rst_text2label.ensures.ends in
-    let g = c.with_unreported-m.ensures.? in record { scan = reference-found w.s.now w.skipped _ _ _ _ (e ∙ link-kept _ _ _ _ _ f g.1.0) g.0; ends = (omega (arith, f.0, g.0), omega (arith, f.1, g.0)); free = λ t q. free-behind w.s.now t w.skipped _ _ q g.1.1 }
+    let g = c.with_unreported-m.ensures in record { scan = reference-found w.s.now w.skipped _ _ _ _ (e ∙ link-kept _ _ _ _ _ f g.kept) g.consumed; ends = (omega (arith, f.0, g.consumed), omega (arith, f.1, g.consumed)); free = λ t q. free-behind w.s.now t w.skipped _ _ q g.free }
 
 pub returns-in-NotFound : goal.returns-in-NotFound
 returns-in-NotFound c = let w = c.args in record { scan = reference-nothing w.s.now w.skipped (answered w.s.now w.scratch.now _ _ _ _ c.requires.room c.rst_text2label.ensures.strings c.in-NotFound.is); ends = tt; free = λ t q. refl }
 
 pub returns-in-NoRoom : goal.returns-in-NoRoom
-returns-in-NoRoom c = let w = c.args in let pair = absurd (text2label-room w.s.now (answered w.s.now w.scratch.now _ _ _ _ c.requires.room c.rst_text2label.ensures.strings c.in-NoRoom.is)) in record { scan = pair.0; ends = pair.1.0; free = pair.1.1 }
+returns-in-NoRoom c = let w = c.args in absurd (text2label-room w.s.now (answered w.s.now w.scratch.now _ _ _ _ c.requires.room c.rst_text2label.ensures.strings c.in-NoRoom.is))

@@ -25,7 +25,7 @@ pub returns-in-NoDefinition : goal.returns-in-NoDefinition
 returns-in-NoDefinition c = let e = unreported-answered c.args.s.now c.args.n c.args.scratch.now c.rst_target.new.scratch c.rst_target.result _ c.requires.room c.rst_target.ensures.alias c.rst_target.ensures.destination c.in-NoDefinition.is in record { consumed = unreported-none c.args.s.now c.args.n e.1; kept = front_kept c.args.n c.args.scratch.now c.rst_target.new.scratch (omega (arith, c.requires.room)); free = λ h. no_block (drop c.args.n c.args.s.now) e.0 e.1 }
 
 pub returns-in-Unread : goal.returns-in-Unread
-returns-in-Unread c = let e = unreported-answered c.args.s.now c.args.n c.args.scratch.now c.rst_target.new.scratch c.rst_target.result _ c.requires.room c.rst_target.ensures.alias c.rst_target.ensures.destination c.in-Unread.is in let pair = absurd (label2label-room _ e.0) in record { consumed = pair.0; kept = pair.1.0; free = pair.1.1 }
+returns-in-Unread c = let e = unreported-answered c.args.s.now c.args.n c.args.scratch.now c.rst_target.new.scratch c.rst_target.result _ c.requires.room c.rst_target.ensures.alias c.rst_target.ensures.destination c.in-Unread.is in absurd (label2label-room _ e.0)
 
 pub returns : goal.returns
 returns c =

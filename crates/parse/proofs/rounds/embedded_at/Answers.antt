@@ -22,7 +22,7 @@ embedded-requires c = record { room = part_room c.args.i c.args.s.now c.args.scr
 pub returns-then-is_bracketed : goal.returns-then-is_bracketed
 returns-then-is_bracketed c =
     let w = c.args in
-    let a = c.embedded.ensures.? in record { scan = a.0 ∙ ap (λ (l : List ℕ). behind w.i (followed rst l (tried rst.embedded l))) (part-from w.s.now w.i); ends = a.1.0; free = a.1.1 w.s.now (part-from w.s.now w.i) }
+    let a = c.embedded.ensures in record { scan = a.scan ∙ ap (λ (l : List ℕ). behind w.i (followed rst l (tried rst.embedded l))) (part-from w.s.now w.i); ends = a.ends; free = a.free w.s.now (part-from w.s.now w.i) }
 
 pub returns : goal.returns
 returns c =

@@ -22,8 +22,7 @@ is_read-read-requires c = let w = c.args in record { place = lfs-le w.s.now w.i 
 
 pub block_at-requires : goal.block_at-requires
 block_at-requires c =
-    let w = c.args in
-    (lfs-le w.s.now w.i _ c.requires.room.0 c.newlines-n.ensures, c.requires.room.1)
+    let w = c.args in record { room = (lfs-le w.s.now w.i _ c.requires.room.0 c.newlines-n.ensures, c.requires.room.1) }
 
 pub returns-in-Found : goal.returns-in-Found
 returns-in-Found c =
@@ -78,10 +77,11 @@ returns c =
     let w = c.args in
     let n = c.newlines-n.result in
     let line = c.starts-line.result in
-    let spaced = c.starts-spaced.result in let pair = (
-      c.text_round.ensures.step
+    let spaced = c.starts-spaced.result in record {
+      step = c.text_round.ensures.step
           ∙ line-text w.s.now (w.i + n) _ (lfs-le w.s.now w.i _ c.requires.room.0 c.newlines-n.ensures) c.space0-m.ensures line spaced c.starts-spaced.ensures
           ∙ line-blank (w.i + n) (drop (w.i + n) w.s.now) line c.block_at.result c.block_at.new.scratch (c.block_at.ensures.scan ∙ ap (behind (w.i + n)) c.is_read-read.ensures) c.in-NotFound.is
-          ∙ round-lines w.s.now w.i _ c.requires.room.0 c.newlines-n.ensures w.start line c.starts-line.ensures,
-      c.text_round.ensures.?,
-    ) in record { step = pair.0; ends = pair.1.0; known = pair.1.1 }
+          ∙ round-lines w.s.now w.i _ c.requires.room.0 c.newlines-n.ensures w.start line c.starts-line.ensures;
+      ends = c.text_round.ensures.ends;
+      known = c.text_round.ensures.known;
+    }

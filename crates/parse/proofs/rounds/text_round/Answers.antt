@@ -19,15 +19,12 @@ pub backtick_round-requires : goal.backtick_round-requires
 backtick_round-requires c = record { room = (c.if-s-i.false, c.requires.room.1); tick = c.may_embed.ensures.tick c.if-may_embed.true; known = c.requires.known }
 
 pub returns-then-may_embed : goal.returns-then-may_embed
-returns-then-may_embed c = let pair = c.backtick_round.ensures.? in record { step = pair.0; ends = pair.1.0; known = pair.1.1 }
+returns-then-may_embed c = c.backtick_round.ensures
 
 pub returns-in-Found : goal.returns-in-Found
 returns-in-Found c =
     let w = c.args in
-    let h = c.if-s-i.false in let pair = (
-      text-found w.i (drop w.i w.s.now) w.spaced c.reference_at-found.result.scan c.reference_at-found.new.scratch (c.reference_at-found.ensures.scan ∙ ap (behind w.i) (sym (unlinked-inline w.spaced w.s.now w.i h (c.may_embed.ensures.none c.if-may_embed.false)))) _ c.in-Found.is,
-      c.reference_at-found.ensures.?,
-    ) in record { step = pair.0; ends = pair.1.0; known = pair.1.1 }
+    let h = c.if-s-i.false in record { step = text-found w.i (drop w.i w.s.now) w.spaced c.reference_at-found.result.scan c.reference_at-found.new.scratch (c.reference_at-found.ensures.scan ∙ ap (behind w.i) (sym (unlinked-inline w.spaced w.s.now w.i h (c.may_embed.ensures.none c.if-may_embed.false)))) _ c.in-Found.is; ends = c.reference_at-found.ensures.ends; known = c.reference_at-found.ensures.free }
 
 pub returns-in-NotFound : goal.returns-in-NotFound
 returns-in-NotFound c =
@@ -37,7 +34,4 @@ returns-in-NotFound c =
 pub returns-in-NoRoom : goal.returns-in-NoRoom
 returns-in-NoRoom c =
     let w = c.args in
-    let h = c.if-s-i.false in let pair = (
-      text-room w.i (drop w.i w.s.now) w.spaced c.reference_at-found.result.scan c.reference_at-found.new.scratch (c.reference_at-found.ensures.scan ∙ ap (behind w.i) (sym (unlinked-inline w.spaced w.s.now w.i h (c.may_embed.ensures.none c.if-may_embed.false)))) c.in-NoRoom.is,
-      c.reference_at-found.ensures.?,
-    ) in record { step = pair.0; ends = pair.1.0; known = pair.1.1 }
+    let h = c.if-s-i.false in record { step = text-room w.i (drop w.i w.s.now) w.spaced c.reference_at-found.result.scan c.reference_at-found.new.scratch (c.reference_at-found.ensures.scan ∙ ap (behind w.i) (sym (unlinked-inline w.spaced w.s.now w.i h (c.may_embed.ensures.none c.if-may_embed.false)))) c.in-NoRoom.is; ends = c.reference_at-found.ensures.ends; known = c.reference_at-found.ensures.free }
