@@ -2,7 +2,6 @@
 -- so no block begins there.
 -- Assumes nothing.
 use Rattle.parse.proofs.BarredLaws.{marks-barred}
-use borrow.Author.Rules.{rules}
 use Rattle.parse.proofs.marking.Goals as goal
 
 pub returns-then-known-eq-FAILED_MAX : goal.returns-then-known-eq-FAILED_MAX

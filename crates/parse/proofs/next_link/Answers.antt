@@ -3,15 +3,12 @@
 -- round ends the scan, or passes some bytes: the measure is what is left.
 -- Where it ends with a link, what was known in front of it is true behind it, and what is told of blocks there is true.
 -- Assumes nothing.
-use Prim.Native.Nat.{◌-◌, ◌≤◌}
-use mathlib.Core.Path.{◌≡◌, refl, sym, subst, subst⁻¹, ◌∙◌}
+use mathlib.Core.Path.{refl, sym, subst, subst⁻¹, ◌∙◌}
 use native.Mathlib.Omega.{arith}
-use lib.ListN.{length, drop}
-use borrow.Author.Rules.{rules}
 use Rattle.parse.specs.Link.{Ends}
 use Rattle.parse.specs.Forms.{rst}
-use Rattle.parse.specs.Scan.{rounds, scan_with, scan_of}
-use Rattle.parse.specs.Inner.{Holds, StepEnds, StepHolds}
+use Rattle.parse.specs.Scan.{scan_with, scan_of}
+use Rattle.parse.specs.Inner.{StepEnds, StepHolds}
 use Rattle.parse.proofs.ScanLaws.{rounds-end}
 use Rattle.parse.proofs.BacktickLaws.{holds_later}
 use Rattle.parse.proofs.OnwardLaws.{found_within, found-holds}

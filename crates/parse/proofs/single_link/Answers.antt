@@ -4,7 +4,6 @@
 use mathlib.Core.Path.{refl, sym, subst, ◌∙◌}
 use native.Mathlib.Omega.{arith}
 use lib.ListN.{length}
-use borrow.Author.Rules.{rules}
 use Rattle.parse.specs.Link.{Ends}
 use Rattle.parse.specs.Single.{document_len_max}
 use Rattle.parse.proofs.SingleLaws.{place-le, single-long, single-outside, single-unplaced, single-scanned, scan-answered, link-within}

@@ -1,6 +1,5 @@
 -- `take_link` meets its contract: it is that of `next_link`, and nothing is known yet.
 -- Assumes nothing.
-use borrow.Author.Rules.{rules}
 use Rattle.parse.proofs.OnwardLaws.{holds-nothing}
 use Rattle.parse.proofs.take_link.Goals as goal
 

@@ -5,7 +5,6 @@ use mathlib.Core.Path.{sym, ap, ◌∙◌}
 use mathlib.Core.Bool.{false}
 use native.Mathlib.Omega.{arith}
 use lib.ListN.{drop, length-drop}
-use borrow.Author.Rules.{rules}
 use Rattle.rst_bytes.specs.Escaped.{taking}
 use Rattle.rst_bytes.proofs.Lists.{part-from}
 use Rattle.rst_bytes.proofs.EscapedLaws.{taking-le}

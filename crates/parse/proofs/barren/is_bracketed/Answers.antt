@@ -8,7 +8,6 @@ use Rattle.rst_bytes.specs.Escaped.{taking}
 use Rattle.rst_bytes.proofs.EscapedLaws.{taking-le}
 use Rattle.rst_bytes.proofs.Lists.{part-from}
 use Rattle.parse.proofs.BarrenLaws.{unbracketed-none}
-use borrow.Author.Rules.{rules}
 use Rattle.parse.proofs.barren.is_bracketed.Goals as goal
 
 pub overflow_add-j : goal.overflow_add-j

@@ -2,7 +2,6 @@
 -- Assumes nothing.
 use mathlib.Core.Path.{◌∙◌}
 use native.Mathlib.Omega.{arith}
-use borrow.Author.Rules.{rules}
 use Rattle.parse.proofs.BarrenLaws.{marked-end, marked-tick, marked-angle, marked_other}
 use Rattle.parse.proofs.barren.marked.Goals as goal
 

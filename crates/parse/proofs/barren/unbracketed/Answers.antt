@@ -1,14 +1,12 @@
 -- `barren::unbracketed` meets its contract. The loop's invariant: i is at most the length, and no embedded link begins before it; the
 -- measure is what is left. A part that has one < before its close is left undecided.
 -- Assumes nothing.
-use Prim.Native.Nat.{◌-◌, ◌≤◌}
 use mathlib.Core.Path.{sym, ap, ◌∙◌}
 use native.Mathlib.Omega.{arith}
 use lib.ListN.{length, length-drop}
-use borrow.Author.Rules.{rules}
 use Rattle.rst_bytes.proofs.Lists.{part-from}
 use Rattle.rst_bytes.proofs.EscapedLaws.{taking-le}
-use Rattle.parse.specs.Inner.{Tick, NoLink, Barren}
+use Rattle.parse.specs.Inner.{Tick, NoLink}
 use Rattle.parse.proofs.BacktickLaws.{each_none}
 use Rattle.parse.proofs.BarrenLaws.{loop-tick, loop-opened}
 use Rattle.parse.proofs.barren.unbracketed.Goals as goal

@@ -2,15 +2,8 @@
 -- measure is what is left. A part that has one < before its close is left undecided.
 -- Assumes nothing.
 use Prim.Native.Nat.{◌-◌, ◌≤◌}
-use mathlib.Core.Path.{sym, ap, ◌∙◌}
-use native.Mathlib.Omega.{arith}
-use lib.ListN.{length, length-drop}
-use borrow.Author.Rules.{rules}
-use Rattle.rst_bytes.proofs.Lists.{part-from}
-use Rattle.rst_bytes.proofs.EscapedLaws.{taking-le}
-use Rattle.parse.specs.Inner.{Tick, NoLink, Barren}
-use Rattle.parse.proofs.BacktickLaws.{each_none}
-use Rattle.parse.proofs.BarrenLaws.{loop-tick, loop-opened}
+use lib.ListN.{length}
+use Rattle.parse.specs.Inner.{Barren}
 use Rattle.parse.proofs.barren.unbracketed.Given as goal
 
 abbrev pub invariant-loop-i : goal.invariant-loop-i

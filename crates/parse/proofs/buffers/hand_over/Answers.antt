@@ -5,7 +5,6 @@ use lib.ListN.{length}
 use Prim.Native.Nat.{◌+◌, ◌≤◌}
 use Rattle.restructured_text.specs.declared.Span.{Span}
 use Rattle.parse.proofs.SingleLaws.{handed-parts, handed-both, handed-short}
-use borrow.Author.Rules.{rules}
 use Rattle.parse.proofs.buffers.hand_over.Goals as goal
 
 pub write_both-requires : goal.write_both-requires

@@ -2,7 +2,6 @@
 -- Assumes nothing.
 use mathlib.Core.Path.{sym, ◌∙◌}
 use native.Mathlib.Omega.{arith}
-use borrow.Author.Rules.{rules}
 use Rattle.parse.proofs.SingleLaws.{place-past, place_end, place-starts, place_inside}
 use Rattle.parse.proofs.buffers.is_place.Goals as goal
 

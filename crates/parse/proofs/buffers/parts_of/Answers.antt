@@ -2,7 +2,6 @@
 -- Assumes nothing.
 use mathlib.Core.Path.{sym, ap}
 use Rattle.parse.specs.Inner.{first_of, second_of}
-use borrow.Author.Rules.{rules}
 use Rattle.parse.proofs.buffers.parts_of.Goals as goal
 
 pub returns-in-Text2Dest : goal.returns-in-Text2Dest

@@ -6,7 +6,6 @@ use mathlib.Core.Path.{◌≡◌, refl}
 use mathlib.Core.List.{List, ◌++◌}
 use lib.ListN.{length, take, drop}
 use lib.Seq.{take-length}
-use borrow.Author.Rules.{rules}
 use Rattle.restructured_text.proofs.StringsLaws.{reach}
 use Rattle.parse.proofs.SingleLaws.{hands-first, hands-second, hands-both}
 use Rattle.parse.proofs.buffers.write_both.Goals as goal

@@ -1,6 +1,5 @@
 -- `calm::calm` meets its contract: lines are passed, or words.
 -- Assumes nothing.
-use borrow.Author.Rules.{rules}
 use Rattle.parse.proofs.calm.calm.Goals as goal
 
 pub returns-then-i-passed : goal.returns-then-i-passed

@@ -3,7 +3,6 @@
 use mathlib.Core.Bool.{false≢true}
 use mathlib.Core.Logic.{inr}
 use native.Mathlib.Omega.{arith}
-use borrow.Author.Rules.{rules}
 use borrow.Author.Tests.{eq-eqb}
 use Rattle.parse.proofs.calm.ends_line.Goals as goal
 

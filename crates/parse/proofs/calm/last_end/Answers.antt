@@ -1,9 +1,7 @@
 -- `calm::last_end` meets its contract. The loop's invariant: j is from i to k, and no place of it was one that is looked for. The measure
 -- is what is left before j.
 -- Assumes nothing.
-use Prim.Native.Nat.{◌-◌, ◌≤◌}
 use native.Mathlib.Omega.{arith}
-use borrow.Author.Rules.{rules}
 use Rattle.parse.proofs.calm.last_end.Goals as goal
 
 pub returns-then-ends_word : goal.returns-then-ends_word

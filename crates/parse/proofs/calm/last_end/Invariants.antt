@@ -2,8 +2,6 @@
 -- is what is left before j.
 -- Assumes nothing.
 use Prim.Native.Nat.{◌-◌, ◌≤◌}
-use native.Mathlib.Omega.{arith}
-use borrow.Author.Rules.{rules}
 use Rattle.parse.proofs.calm.last_end.Given as goal
 
 abbrev pub invariant-loop-j : goal.invariant-loop-j

@@ -1,15 +1,11 @@
 -- `calm::pass_lines` meets its contract. The loop's invariant: no `_` and no backtick stands from i up to j, and `next` is i or a place up to
 -- which the text is passed. The measure is what is left.
 -- Assumes nothing.
-use Prim.Native.Nat.{◌-◌, ◌≤◌}
-use mathlib.Core.Bool.{Bool}
 use mathlib.Core.Path.{◌≡◌, sym, ◌∙◌}
 use mathlib.Core.Logic.{inl}
 use native.Mathlib.Omega.{arith}
 use lib.ListN.{length}
-use borrow.Author.Rules.{rules}
 use Rattle.rst_bytes.specs.Escaped.{is_stop}
-use Rattle.parse.specs.Inner.{Calm, Skips}
 use Rattle.parse.proofs.CalmLaws.{without-next, without-none, calm-join, calm-skips, skips-none}
 use Rattle.parse.proofs.calm.pass_lines.Goals as goal
 

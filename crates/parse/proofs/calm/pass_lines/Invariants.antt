@@ -3,14 +3,8 @@
 -- Assumes nothing.
 use Prim.Native.Nat.{◌-◌, ◌≤◌}
 use mathlib.Core.Bool.{Bool}
-use mathlib.Core.Path.{◌≡◌, sym, ◌∙◌}
-use mathlib.Core.Logic.{inl}
-use native.Mathlib.Omega.{arith}
 use lib.ListN.{length}
-use borrow.Author.Rules.{rules}
-use Rattle.rst_bytes.specs.Escaped.{is_stop}
 use Rattle.parse.specs.Inner.{Calm, Skips}
-use Rattle.parse.proofs.CalmLaws.{without-next, without-none, calm-join, calm-skips, skips-none}
 use Rattle.parse.proofs.calm.pass_lines.Given as goal
 
 abbrev pub invariant-loop-j : goal.invariant-loop-j

@@ -2,7 +2,6 @@
 -- Assumes nothing.
 use native.Mathlib.Omega.{arith}
 use Rattle.parse.proofs.CalmLaws.{gap-skips}
-use borrow.Author.Rules.{rules}
 use Rattle.parse.proofs.calm.pass_words.Goals as goal
 
 pub returns : goal.returns

@@ -1,15 +1,8 @@
 -- `calm::stop_from` meets its contract. The loop's invariant: no `_`, no backtick and no LF stands from i up to j. The measure is what is left.
 -- Assumes nothing.
 use Prim.Native.Nat.{◌-◌, ◌≤◌}
-use mathlib.Core.Path.{sym, ◌∙◌}
-use native.Mathlib.Omega.{arith}
 use lib.ListN.{length}
-use borrow.Author.Tests.{ne_eqb}
-use borrow.Author.Rules.{rules}
-use Rattle.rst_bytes.specs.Escaped.{is_stop}
-use Rattle.parse.specs.Scan.{is_lf}
 use Rattle.parse.specs.Inner.{Calm, Lineless}
-use Rattle.parse.proofs.CalmLaws.{without-none, without-next}
 use Rattle.parse.proofs.calm.stop_from.Given as goal
 
 abbrev pub invariant-loop-j : goal.invariant-loop-j

@@ -3,7 +3,6 @@
 use mathlib.Core.Path.{subst⁻¹}
 use mathlib.Core.Bool.{Bool}
 use native.Mathlib.Omega.{arith}
-use borrow.Author.Rules.{rules}
 use Rattle.parse.specs.Inner.{Skips}
 use Rattle.parse.proofs.CalmLaws.{skips-none}
 use Rattle.parse.proofs.calm.words_ahead.Goals as goal

@@ -2,7 +2,6 @@
 -- finds. The scratch is long enough.
 -- Assumes nothing.
 use mathlib.Core.Path.{subst}
-use borrow.Author.Rules.{rules}
 use Rattle.restructured_text.specs.declared.target.Definition.{Definition}
 use Rattle.restructured_text.specs.Strings.{Ends}
 use Rattle.restructured_text.specs.Definition.{alias_in, destination_in}

@@ -3,7 +3,6 @@
 -- Assumes nothing.
 use mathlib.Core.Path.{refl, subst, ◌∙◌}
 use native.Mathlib.Omega.{arith}
-use borrow.Author.Rules.{rules}
 use Rattle.restructured_text.specs.Strings.{Ends}
 use Rattle.restructured_text.proofs.InlineLaws.{text2dest-consumed, text2dest-room, text-label2dest-consumed, text-label2dest-room}
 use Rattle.parse.proofs.FormsLaws.{answered, embedded-anonymous, embedded-named, embedded-nothing, link-kept}

@@ -2,7 +2,6 @@
 -- Assumes nothing.
 use native.Mathlib.Omega.{arith}
 use Rattle.parse.proofs.LongLaws.{blank-beyond}
-use borrow.Author.Rules.{rules}
 use Rattle.parse.proofs.forms.is_blank_at.Goals as goal
 
 pub returns : goal.returns

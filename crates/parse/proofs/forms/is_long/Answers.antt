@@ -1,13 +1,9 @@
 -- `forms::is_long` meets its contract. The loop's invariant: i is at most the length, and the answer is that from i on, i bytes being passed. One
 -- law of `long_from` at i for each way through the body. The measure is what is left.
 -- Assumes nothing.
-use Prim.Native.Nat.{◌≤◌, ◌-◌}
-use mathlib.Core.Path.{◌≡◌, refl, sym, ◌∙◌}
+use mathlib.Core.Path.{refl, sym, ◌∙◌}
 use native.Mathlib.Omega.{arith}
-use lib.ListN.{length, drop}
-use borrow.Author.Rules.{rules}
 use borrow.Author.Tests.{eq-eqb, ne_eqb}
-use Rattle.parse.specs.Inner.{long_from}
 use Rattle.parse.proofs.LongLaws.{long-end, long-lf, long-on, long-far}
 use Rattle.parse.proofs.forms.is_long.Goals as goal
 

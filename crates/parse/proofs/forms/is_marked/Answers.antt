@@ -3,7 +3,6 @@
 use mathlib.Core.Path.{sym}
 use mathlib.Core.Bool.{true≢false}
 use borrow.Author.Tests.{eqb-true}
-use borrow.Author.Rules.{rules}
 use Rattle.parse.proofs.forms.is_marked.Goals as goal
 
 pub returns-then-marks-from : goal.returns-then-marks-from

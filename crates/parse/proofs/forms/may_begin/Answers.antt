@@ -3,7 +3,6 @@
 use mathlib.Core.Path.{sym, ◌∙◌}
 use mathlib.Core.Bool.{true≢false}
 use Rattle.parse.proofs.BarredLaws.{unstarted}
-use borrow.Author.Rules.{rules}
 use Rattle.parse.proofs.forms.may_begin.Goals as goal
 
 pub returns-then-is_marked : goal.returns-then-is_marked

@@ -3,7 +3,6 @@
 -- Assumes nothing.
 use mathlib.Core.Path.{refl, subst, ◌∙◌}
 use native.Mathlib.Omega.{arith}
-use borrow.Author.Rules.{rules}
 use Rattle.restructured_text.specs.Strings.{Ends}
 use Rattle.restructured_text.proofs.InlineLaws.{text2label-consumed, text2label-room}
 use Rattle.parse.proofs.FormsLaws.{answered, reference-found, reference-nothing, link-kept}

@@ -2,7 +2,6 @@
 -- Assumes nothing.
 use mathlib.Core.Path.{sym, ap, ◌∙◌}
 use Rattle.parse.specs.Inner.{told_of}
-use borrow.Author.Rules.{rules}
 use Rattle.parse.proofs.forms.told.Goals as goal
 
 pub returns-then-is_long : goal.returns-then-is_long

@@ -7,7 +7,6 @@ use lib.ListN.{drop}
 use Rattle.restructured_text.proofs.TargetLaws.{label2label-room}
 use Rattle.parse.proofs.FormsLaws.{no_block, unreported-answered, unreported-found, unreported-none, unreported-le, front_kept}
 use Rattle.parse.proofs.BarredLaws.{no-block-unreported, free-nothing}
-use borrow.Author.Rules.{rules}
 use Rattle.parse.proofs.forms.with_unreported.Goals as goal
 
 pub overflow_add-result : goal.overflow_add-result

@@ -3,7 +3,6 @@
 use mathlib.Core.Path.{sym}
 use borrow.Author.Tests.{lt-ltb, le-ltb}
 use Rattle.parse.proofs.OnwardLaws.{known_is}
-use borrow.Author.Rules.{rules}
 use Rattle.parse.proofs.onward.known_from.Goals as goal
 
 pub returns-then-free-gt-UNTOLD : goal.returns-then-free-gt-UNTOLD

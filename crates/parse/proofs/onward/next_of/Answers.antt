@@ -1,7 +1,6 @@
 -- `onward::next_of` meets its contract: where a link was found, what is known from behind it on is true of the text there.
 -- Assumes nothing.
 use mathlib.Core.Path.{refl, sym, subst, subst⁻¹}
-use borrow.Author.Rules.{rules}
 use Rattle.parse.specs.Inner.{EndsWithin, HoldsBehind, FreeBehind, TrueBehind}
 use Rattle.parse.proofs.OnwardLaws.{behind-holds}
 use Rattle.parse.proofs.onward.next_of.Goals as goal

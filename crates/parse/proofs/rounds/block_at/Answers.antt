@@ -9,7 +9,6 @@ use Rattle.rst_bytes.proofs.Lists.{part-from}
 use Rattle.parse.specs.Link.{behind}
 use Rattle.parse.specs.Forms.{tried, rst}
 use Rattle.parse.specs.Scan.{block_at}
-use borrow.Author.Rules.{rules}
 use Rattle.parse.proofs.rounds.block_at.Goals as goal
 
 pub returns-then-read : goal.returns-then-read

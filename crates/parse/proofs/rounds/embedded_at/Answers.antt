@@ -10,7 +10,6 @@ use Rattle.parse.specs.Forms.{tried, rst}
 use Rattle.parse.specs.Scan.{followed}
 use Rattle.parse.proofs.BarrenLaws.{tick-front}
 use Rattle.parse.proofs.BarredLaws.{barred-part, part_room}
-use borrow.Author.Rules.{rules}
 use Rattle.parse.proofs.rounds.embedded_at.Goals as goal
 
 pub is_bracketed-requires : goal.is_bracketed-requires

@@ -2,7 +2,6 @@
 -- Assumes nothing.
 use lib.ListN.{drop}
 use Rattle.parse.proofs.RoundLaws.{inline-embedded, inline-reference, inline-room}
-use borrow.Author.Rules.{rules}
 use Rattle.parse.proofs.rounds.inline_at.Goals as goal
 
 pub returns-in-Found : goal.returns-in-Found

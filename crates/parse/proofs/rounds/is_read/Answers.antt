@@ -7,7 +7,6 @@ use lib.ListN.{drop}
 use Rattle.parse.specs.Forms.{rst}
 use Rattle.parse.specs.Scan.{block_at}
 use Rattle.parse.proofs.BarredLaws.{read-block}
-use borrow.Author.Rules.{rules}
 use Rattle.parse.proofs.rounds.is_read.Goals as goal
 
 pub returns-then-i-known : goal.returns-then-i-known

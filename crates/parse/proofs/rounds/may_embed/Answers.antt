@@ -2,7 +2,6 @@
 -- Assumes nothing.
 use native.Mathlib.Nat.{le_refl}
 use mathlib.Core.Bool.{true≢false, false≢true}
-use borrow.Author.Rules.{rules}
 use Rattle.parse.proofs.BacktickLaws.{other-unlinked}
 use Rattle.parse.proofs.rounds.may_embed.Goals as goal
 

@@ -1,13 +1,9 @@
 -- `rounds::newlines` meets its contract. The loop's invariant: i is at most the length, and the count is that from i on, i bytes being
 -- counted. One law of `bytes_from` at i for each way through the body. The measure is what is left.
 -- Assumes nothing.
-use Prim.Native.Nat.{◌≤◌, ◌-◌}
-use mathlib.Core.Path.{◌≡◌, refl, sym, ◌∙◌}
+use mathlib.Core.Path.{refl, sym, ◌∙◌}
 use native.Mathlib.Omega.{arith}
-use lib.ListN.{length, drop}
-use borrow.Author.Rules.{rules}
 use borrow.Author.Tests.{eq-eqb, ne_eqb}
-use Rattle.rst_bytes.specs.Line.{bytes_from}
 use Rattle.rst_bytes.proofs.LineLaws.{bytes-end, bytes-pass, bytes-stop}
 use Rattle.parse.specs.Scan.{is_lf}
 use Rattle.parse.proofs.rounds.newlines.Goals as goal

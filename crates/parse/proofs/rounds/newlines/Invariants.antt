@@ -2,13 +2,9 @@
 -- counted. One law of `bytes_from` at i for each way through the body. The measure is what is left.
 -- Assumes nothing.
 use Prim.Native.Nat.{◌≤◌, ◌-◌}
-use mathlib.Core.Path.{◌≡◌, refl, sym, ◌∙◌}
-use native.Mathlib.Omega.{arith}
+use mathlib.Core.Path.{◌≡◌}
 use lib.ListN.{length, drop}
-use borrow.Author.Rules.{rules}
-use borrow.Author.Tests.{eq-eqb, ne_eqb}
 use Rattle.rst_bytes.specs.Line.{bytes_from}
-use Rattle.rst_bytes.proofs.LineLaws.{bytes-end, bytes-pass, bytes-stop}
 use Rattle.parse.specs.Scan.{is_lf}
 use Rattle.parse.proofs.rounds.newlines.Given as goal
 

@@ -5,7 +5,6 @@ use mathlib.Core.Path.{sym, ap, ◌∙◌}
 use mathlib.Core.List.{List}
 use native.Mathlib.Omega.{arith}
 use lib.ListN.{length, drop, take, length-drop, length-take}
-use borrow.Author.Rules.{rules}
 use Rattle.rst_bytes.specs.Line.{bytes_from}
 use Rattle.rst_bytes.proofs.Lists.{part-from}
 use Rattle.rst_bytes.proofs.LineLaws.{bytes-within}

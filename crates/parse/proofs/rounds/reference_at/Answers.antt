@@ -12,7 +12,6 @@ use Rattle.parse.specs.Forms.{tried, rst}
 use Rattle.parse.specs.Scan.{reference_at, followed}
 use Rattle.parse.proofs.BarredLaws.{barred-part, part_room}
 use Rattle.parse.proofs.RoundLaws.{reference-opened, reference-plain}
-use borrow.Author.Rules.{rules}
 use Rattle.parse.proofs.rounds.reference_at.Goals as goal
 
 pub reference-requires : goal.reference-requires

@@ -8,7 +8,6 @@ use lib.ListN.{drop}
 use Rattle.parse.specs.Link.{Ends, behind}
 use Rattle.parse.proofs.BacktickLaws.{holds_later}
 use Rattle.parse.proofs.RoundLaws.{line-found, line-blank, line-room, lfs-le, blanks-le, round-lines, line-text}
-use borrow.Author.Rules.{rules}
 use Rattle.parse.proofs.BarredLaws.{free-nothing}
 use Rattle.parse.proofs.rounds.round.Goals as goal
 

@@ -1,6 +1,5 @@
 -- `rounds::shut_from` meets its contract: what was known before, or what `unclosed` says of the part from place i on.
 -- Assumes nothing.
-use borrow.Author.Rules.{rules}
 use Rattle.rst_bytes.proofs.Lists.{part-from}
 use Rattle.parse.specs.Inner.{Tick, NoPart}
 use Rattle.parse.proofs.BacktickLaws.{each-behind}

@@ -3,7 +3,6 @@
 use mathlib.Core.Path.{sym, ap}
 use mathlib.Core.Bool.{Bool, ◌||◌}
 use lib.Dec.{ltb}
-use borrow.Author.Rules.{rules}
 use Rattle.parse.proofs.rounds.starts.Goals as goal
 
 pub returns : goal.returns

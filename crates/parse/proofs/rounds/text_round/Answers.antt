@@ -3,7 +3,6 @@
 -- Assumes nothing.
 use mathlib.Core.Path.{refl, sym, ap, ◌∙◌}
 use lib.ListN.{drop}
-use borrow.Author.Rules.{rules}
 use Rattle.parse.specs.Link.{behind}
 use Rattle.parse.proofs.RoundLaws.{is-scanned, text-end, text-found, text-passed, text-room, passed-le}
 use Rattle.parse.proofs.BacktickLaws.{unlinked-inline, holds_later}
