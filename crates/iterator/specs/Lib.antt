@@ -22,7 +22,7 @@
 --   collecting         CollectingLaws collect-append: collecting two lists of links is collecting the first and then the second;
 --                      AppendingLaws collect-grows: what is collected stays, and what links add to it follows, in their order
 --   which names        Reach defines when a name reaches a destination (it has it, or its alias's target reaches it). ReachLaws sound:
---                      a name that ends with a destination reaches it; complete: a name that reaches one ends with one; left-over:
+--                      a name that ends with a destination reaches it; complete: a name that reaches one ends with one; left_over_lem:
 --                      the target of an alias that is left over has none. OnceLaws unique: a name reaches one only, where no name is
 --                      defined twice; resolved-grows: then more names and aliases leave what was resolved as it was
 --   computing          CasesHold outcomes: to unfold it is to unfold all that computing a document's answer goes through

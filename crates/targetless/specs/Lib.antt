@@ -4,7 +4,7 @@
 -- Verdict, Runs and Walk are what the contracts of private functions speak of.
 --
 -- Laws, proved in the file of proofs/ that is named, for the layers above:
---   WalkLaws marks-none: nothing is claimed where nothing is marked; ClearLaws Cleared, clear-none, clear-more, clear-all: an area that is
+--   WalkLaws marks-none: nothing is claimed where nothing is marked; ClearLaws Cleared, clear_none, clear-more, clear-all: an area that is
 --   zeroed from its front
 pub mod Targetless
 pub mod Verdict
