@@ -21,5 +21,5 @@ returns c =
     _
     _
     c.work-r.ensures
-    (c.clear_numbers.ensures ∙ ap (λ (n : ℕ). replicate n 0) c.work-r.auto.1.1.0)
-    (c.clear_bytes.ensures ∙ ap (λ (n : ℕ). replicate n 0) c.work-r.auto.1.1.1.0)
+    (c.clear_numbers.ensures ∙ ap (λ (n : ℕ). replicate n 0) c.work-r.auto.numbers)
+    (c.clear_bytes.ensures ∙ ap (λ (n : ℕ). replicate n 0) c.work-r.auto.bytes)

@@ -1,11 +1,7 @@
 -- `read` meets its contract: what each call leaves is what the next one asks for, and the records are those of the definition.
 -- Assumes nothing.
-use Prim.Native.Nat.{ℕ}
 use mathlib.Core.Path.{◌∙◌}
-use mathlib.Core.List.{List}
 use native.Mathlib.Omega.{arith}
-use Rattle.iterator.specs.declared.collect.MarkupLinkCollection.{MarkupLinkCollection}
-use Rattle.iterator.specs.declared.resolve.Resolved.{Resolved}
 use Rattle.iterator.proofs.DocumentLaws.{
   Gathered,
   gathered,
@@ -19,27 +15,11 @@ use Rattle.iterator.proofs.DocumentLaws.{
   told-written,
 }
 use borrow.Author.Rules.{rules}
+use Rattle.iterator.proofs.read.Goals.{In-Next, After-resolve_text2label_references-r}
 use Rattle.iterator.proofs.read.Goals as goal
 
--- TODO abbrev begun : tie.After-known-told → tie.Start
--- TODO begun c = c.before.before.before.before.before.before.before.before.before.before.before.before.before.before
-
--- TODO abbrev collecting : tie.After-known-told → tie.After-collect
--- TODO collecting c = c.before.before.before.before.before.before.before
-
--- TODO abbrev Doc : tie.After-known-told → List ℕ
--- TODO Doc c = (begun c).args.document.now
-
--- TODO abbrev Numbers : tie.After-known-told → List ℕ
--- TODO Numbers c = (collecting c).collect.new.1.1.0
-
--- TODO abbrev Bytes : tie.After-known-told → List ℕ
--- TODO Bytes c = (collecting c).collect.new.1.1.1.0
-
--- TODO abbrev Coll : tie.After-known-told → MarkupLinkCollection
--- TODO Coll c = c.before.c.given.0.0
-
-gather : (c : tie.After-known-told) → Gathered (begun c).args.render (Doc c) (Numbers c) (Bytes c) (Coll c)
+-- what is collected: the document's links in both work areas
+gather : (c : In-Next) → Gathered c.args.render c.args.document.now c.collect.new.numbers c.collect.new.bytes c.in-Next.c
 gather c =
     gathered
     _
@@ -47,52 +27,41 @@ gather c =
     _
     _
     _
-    (collecting c).collect.ensures.0
+    c.collect.ensures.step
     _
-    c.before.c.given.1
-    (begun c).requires.0 (
-      omega (arith, (begun c).requires.1.0, (collecting c).collect.auto.1.1.0),
-      omega (arith, (begun c).requires.1.1, (collecting c).collect.auto.1.1.1.0),
+    c.in-Next.is
+    c.requires.0 (
+      omega (arith, c.requires.1.0, c.collect.auto.numbers),
+      omega (arith, c.requires.1.1, c.collect.auto.bytes),
     )
-    (collecting c).collect.ensures.1
+    c.collect.ensures.held
 
--- TODO abbrev naming : tie.After-struct-known → tie.After-resolve-label2label-references
--- TODO naming c = c.before.before.before.before.before.before.before.before
-
--- TODO abbrev resolving : tie.After-struct-known → tie.After-resolve-text2label-references
--- TODO resolving c = c.before.before.before
-
--- TODO abbrev known : tie.After-struct-known → tie.After-known-told
--- TODO known c = c.before.before.before.before.before.before.before.before.before.before.before
-
--- TODO abbrev Rows : tie.After-struct-known → List ℕ
--- TODO Rows c = (resolving c).resolve-text2label-references.new.1.1.1.0
-
--- TODO abbrev Links : tie.After-struct-known → Resolved
--- TODO Links c = (resolving c).resolve-text2label-references.result
-
-list : (c : tie.After-struct-known) → Listed (begun (known c)).args.render (Doc (known c)) (Rows c) (Bytes (known c)) (Links c)
-list c =
+-- the links that are resolved, where they stand in the work numbers
+list :
+    (c : After-resolve_text2label_references-r)
+    → Gathered c.args.render c.args.document.now c.collect.new.numbers c.collect.new.bytes c.in-Next.c
+    → Listed c.args.render c.args.document.now c.resolve_text2label_references-r.new.numbers c.collect.new.bytes c.resolve_text2label_references-r.result
+list c g =
     listed
     _
     _
     _
     _
     _
-    (gather (known c))
+    g
     _
     _
-    (naming c).resolve-label2label-references.auto.1.1.0
-    (naming c).resolve-label2label-references.ensures.1
-    (naming c).resolve-label2label-references.ensures.0
+    c.resolve_label2label_references-names.auto.numbers
+    c.resolve_label2label_references-names.ensures.held
+    c.resolve_label2label_references-names.ensures.resolved
     _
     _
-    (resolving c).resolve-text2label-references.auto.1.1.1.0
-    (resolving c).resolve-text2label-references.ensures.0
-    (resolving c).resolve-text2label-references.ensures.1
+    c.resolve_text2label_references-r.auto.numbers
+    c.resolve_text2label_references-r.ensures.links
+    c.resolve_text2label_references-r.ensures.held
 
 pub resolve_label2label_references-names-requires : goal.resolve_label2label_references-names-requires
-resolve_label2label_references-names-requires c = aliases-held _ _ _ _ _ (gather c)
+resolve_label2label_references-names-requires c = aliases-held _ _ _ _ _ (gather (goal.at.resolve_label2label_references-names-requires c).In-Next)
 
 pub resolve_text2label_references-r-requires : goal.resolve_text2label_references-r-requires
 resolve_text2label_references-r-requires c =
@@ -102,32 +71,32 @@ resolve_text2label_references-r-requires c =
     _
     _
     _
-    (gather c)
+    (gather (goal.at.resolve_text2label_references-r-requires c).In-Next)
     _
     _
-    c.resolve_label2label_references-names.auto.1.1.0
+    c.resolve_label2label_references-names.auto.numbers
     c.resolve_label2label_references-names.ensures.held
 
 pub refused-requires : goal.refused-requires
-refused-requires c = omega (arith, (list c).size_few)
+refused-requires c = omega (arith, (list (goal.at.refused-requires c).After-resolve_text2label_references-r (gather (goal.at.refused-requires c).In-Next)).size_few)
 
 pub returns-then-output-r : goal.returns-then-output-r
-returns-then-output-r c = told-short _ _ _ _ _ (list c) _ _ c.if-output-r.true c.refused.ensures
+returns-then-output-r c = told-short _ _ _ _ _ (list (goal.at.returns-then-output-r c).After-resolve_text2label_references-r (gather (goal.at.returns-then-output-r c).In-Next)) _ _ c.if-output-r.true c.refused.ensures
 
 pub write_records-requires : goal.write_records-requires
-write_records-requires c = writing _ _ _ _ _ (list c) (begun (known c)).args.output.now c.if-output-r.false
+write_records-requires c = writing _ _ _ _ _ (list (goal.at.write_records-requires c).After-resolve_text2label_references-r (gather (goal.at.write_records-requires c).In-Next)) c.args.output.now c.if-output-r.false
 
 pub overflow_cast-result-in-Next : goal.overflow_cast-result-in-Next
-overflow_cast-result-in-Next c = omega (arith, (list c).size_few)
+overflow_cast-result-in-Next c = omega (arith, (list (goal.at.overflow_cast-result-in-Next c).After-resolve_text2label_references-r (gather (goal.at.overflow_cast-result-in-Next c).In-Next)).size_few)
 
 pub shape_of-numbers-else-output-r : goal.shape_of-numbers-else-output-r
 shape_of-numbers-else-output-r c =
-    (resolving c).resolve-text2label-references.auto.1.1.1.0
-    ∙ (naming c).resolve-label2label-references.auto.1.1.0
-    ∙ (collecting (known c)).collect.auto.1.1.0
+    c.resolve_text2label_references-r.auto.numbers
+    ∙ c.resolve_label2label_references-names.auto.numbers
+    ∙ c.collect.auto.numbers
 
 pub returns-else-output-r : goal.returns-else-output-r
-returns-else-output-r c = told-written _ _ _ _ _ (list c) _ _ c.if-output-r.false c.write_records.ensures
+returns-else-output-r c = told-written _ _ _ _ _ (list (goal.at.returns-else-output-r c).After-resolve_text2label_references-r (gather (goal.at.returns-else-output-r c).In-Next)) _ _ c.if-output-r.false c.write_records.ensures
 
 pub returns-in-Refused : goal.returns-in-Refused
 returns-in-Refused c = told-refused _ _ _ _ _ c.collect.ensures.step _ _ _ c.in-Refused.is c.refused-in-Refused.ensures

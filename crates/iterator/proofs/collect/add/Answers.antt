@@ -8,82 +8,62 @@ use Prim.Native.Nat.{ℕ}
 use borrow.Author.Rules.{rules}
 use Rattle.iterator.proofs.collect.add.Goals as goal
 
--- TODO given of x
 pub row_of-requires : goal.row_of-requires
-row_of-requires c = let w = c.args in let g = c.x-1.given in row_fits w.numbers.now w.bytes.now w.c w.x text2dest g.0.0 g.0.1.0 g.0.1.1.0 g.0.1.1.1.0 g.1 c.requires
+row_of-requires c = let w = c.args in let g = c.in-Text2Dest in row_fits w.numbers.now w.bytes.now w.c w.x text2dest g.a g.b g.m g.n g.is c.requires
 
--- TODO given of x
 pub read_to-requires : goal.read_to-requires
-read_to-requires c = let w = c.args in let g = c.x-1.given in read_fits w.numbers.now w.bytes.now w.c w.x text2dest g.0.0 g.0.1.0 g.0.1.1.0 g.0.1.1.1.0 g.1 c.requires
+read_to-requires c = let w = c.args in let g = c.in-Text2Dest in read_fits w.numbers.now w.bytes.now w.c w.x text2dest g.a g.b g.m g.n g.is c.requires
 
--- TODO given of x
 pub add_link-requires : goal.add_link-requires
-add_link-requires c = let w = c.args in let g = c.x-1.given in (c.requires.0.0, small w.numbers.now w.bytes.now w.c w.x text2dest g.0.0 g.0.1.0 g.0.1.1.0 g.0.1.1.1.0 g.1 c.requires c.row_of.result c.read_to.result c.row_of.ensures c.read_to.ensures)
+add_link-requires c = let w = c.args in let g = c.in-Text2Dest in (c.requires.0.0, small w.numbers.now w.bytes.now w.c w.x text2dest g.a g.b g.m g.n g.is c.requires c.row_of.result c.read_to.result c.row_of.ensures c.read_to.ensures)
 
--- TODO given of x2
 pub row_of-row-requires : goal.row_of-row-requires
-row_of-row-requires c = let w = c.args in let g = c.x-in-TextLabel2Dest-1.given in row_fits w.numbers.now w.bytes.now w.c w.x text-label2dest g.0.0 g.0.1.0 g.0.1.1.0 g.0.1.1.1.0 g.1 c.requires
+row_of-row-requires c = let w = c.args in let g = c.in-TextLabel2Dest in row_fits w.numbers.now w.bytes.now w.c w.x text-label2dest g.a g.b g.m g.n g.is c.requires
 
--- TODO given of x2
 pub read_to-requires-in-TextLabel2Dest : goal.read_to-requires-in-TextLabel2Dest
-read_to-requires-in-TextLabel2Dest c = let w = c.args in let g = c.x-in-TextLabel2Dest-1.given in read_fits w.numbers.now w.bytes.now w.c w.x text-label2dest g.0.0 g.0.1.0 g.0.1.1.0 g.0.1.1.1.0 g.1 c.requires
+read_to-requires-in-TextLabel2Dest c = let w = c.args in let g = c.in-TextLabel2Dest in read_fits w.numbers.now w.bytes.now w.c w.x text-label2dest g.a g.b g.m g.n g.is c.requires
 
--- TODO given of x2
 pub add_both-requires : goal.add_both-requires
-add_both-requires c = let w = c.args in let g = c.x-in-TextLabel2Dest-1.given in let z = small w.numbers.now w.bytes.now w.c w.x text-label2dest g.0.0 g.0.1.0 g.0.1.1.0 g.0.1.1.1.0 g.1 c.requires c.row_of-row.result c.read_to-in-TextLabel2Dest.result c.row_of-row.ensures c.read_to-in-TextLabel2Dest.ensures in (c.requires.0.0, (few w.numbers.now w.bytes.now w.c w.x text-label2dest g.0.0 g.0.1.0 g.0.1.1.0 g.0.1.1.1.0 g.1 c.requires c.row_of-row.result c.read_to-in-TextLabel2Dest.result c.row_of-row.ensures c.read_to-in-TextLabel2Dest.ensures, (z, z.1)))
+add_both-requires c = let w = c.args in let g = c.in-TextLabel2Dest in let z = small w.numbers.now w.bytes.now w.c w.x text-label2dest g.a g.b g.m g.n g.is c.requires c.row_of-row.result c.read_to-in-TextLabel2Dest.result c.row_of-row.ensures c.read_to-in-TextLabel2Dest.ensures in (c.requires.0.0, (few w.numbers.now w.bytes.now w.c w.x text-label2dest g.a g.b g.m g.n g.is c.requires c.row_of-row.result c.read_to-in-TextLabel2Dest.result c.row_of-row.ensures c.read_to-in-TextLabel2Dest.ensures, (z, z.1)))
 
--- TODO given of x3
 pub row_of-requires-in-Text2Label : goal.row_of-requires-in-Text2Label
-row_of-requires-in-Text2Label c = let w = c.args in let g = c.x-in-Text2Label-1.given in row_fits w.numbers.now w.bytes.now w.c w.x text2label g.0.0 g.0.1.0 g.0.1.1.0 g.0.1.1.1.0 g.1 c.requires
+row_of-requires-in-Text2Label c = let w = c.args in let g = c.in-Text2Label in row_fits w.numbers.now w.bytes.now w.c w.x text2label g.a g.b g.m g.n g.is c.requires
 
--- TODO given of x3
 pub read_to-requires-in-Text2Label : goal.read_to-requires-in-Text2Label
-read_to-requires-in-Text2Label c = let w = c.args in let g = c.x-in-Text2Label-1.given in read_fits w.numbers.now w.bytes.now w.c w.x text2label g.0.0 g.0.1.0 g.0.1.1.0 g.0.1.1.1.0 g.1 c.requires
+read_to-requires-in-Text2Label c = let w = c.args in let g = c.in-Text2Label in read_fits w.numbers.now w.bytes.now w.c w.x text2label g.a g.b g.m g.n g.is c.requires
 
--- TODO given of x3
 pub add_text2label-requires : goal.add_text2label-requires
-add_text2label-requires c = let w = c.args in let g = c.x-in-Text2Label-1.given in addable w.numbers.now w.bytes.now w.c w.x text2label g.0.0 g.0.1.0 g.0.1.1.0 g.0.1.1.1.0 g.1 c.requires c.row_of-in-Text2Label.result c.read_to-in-Text2Label.result c.row_of-in-Text2Label.ensures c.read_to-in-Text2Label.ensures
+add_text2label-requires c = let w = c.args in let g = c.in-Text2Label in addable w.numbers.now w.bytes.now w.c w.x text2label g.a g.b g.m g.n g.is c.requires c.row_of-in-Text2Label.result c.read_to-in-Text2Label.result c.row_of-in-Text2Label.ensures c.read_to-in-Text2Label.ensures
 
--- TODO given of x4
 pub row_of-requires-in-Label2Dest : goal.row_of-requires-in-Label2Dest
-row_of-requires-in-Label2Dest c = let w = c.args in let g = c.x-in-Label2Dest-1.given in row_fits w.numbers.now w.bytes.now w.c w.x label2dest g.0.0 g.0.1.0 g.0.1.1.0 g.0.1.1.1.0 g.1 c.requires
+row_of-requires-in-Label2Dest c = let w = c.args in let g = c.in-Label2Dest in row_fits w.numbers.now w.bytes.now w.c w.x label2dest g.a g.b g.m g.n g.is c.requires
 
--- TODO given of x4
 pub read_to-requires-in-Label2Dest : goal.read_to-requires-in-Label2Dest
-read_to-requires-in-Label2Dest c = let w = c.args in let g = c.x-in-Label2Dest-1.given in read_fits w.numbers.now w.bytes.now w.c w.x label2dest g.0.0 g.0.1.0 g.0.1.1.0 g.0.1.1.1.0 g.1 c.requires
+read_to-requires-in-Label2Dest c = let w = c.args in let g = c.in-Label2Dest in read_fits w.numbers.now w.bytes.now w.c w.x label2dest g.a g.b g.m g.n g.is c.requires
 
--- TODO given of x4
 pub add_label2dest-requires : goal.add_label2dest-requires
-add_label2dest-requires c = let w = c.args in let g = c.x-in-Label2Dest-1.given in addable w.numbers.now w.bytes.now w.c w.x label2dest g.0.0 g.0.1.0 g.0.1.1.0 g.0.1.1.1.0 g.1 c.requires c.row_of-in-Label2Dest.result c.read_to-in-Label2Dest.result c.row_of-in-Label2Dest.ensures c.read_to-in-Label2Dest.ensures
+add_label2dest-requires c = let w = c.args in let g = c.in-Label2Dest in addable w.numbers.now w.bytes.now w.c w.x label2dest g.a g.b g.m g.n g.is c.requires c.row_of-in-Label2Dest.result c.read_to-in-Label2Dest.result c.row_of-in-Label2Dest.ensures c.read_to-in-Label2Dest.ensures
 
--- TODO given of x5
 pub row_of-requires-in-Label2Label : goal.row_of-requires-in-Label2Label
-row_of-requires-in-Label2Label c = let w = c.args in let g = c.x-in-Label2Label-1.given in row_fits w.numbers.now w.bytes.now w.c w.x label2label g.0.0 g.0.1.0 g.0.1.1.0 g.0.1.1.1.0 g.1 c.requires
+row_of-requires-in-Label2Label c = let w = c.args in let g = c.in-Label2Label in row_fits w.numbers.now w.bytes.now w.c w.x label2label g.a g.b g.m g.n g.is c.requires
 
--- TODO given of x5
 pub read_to-requires-in-Label2Label : goal.read_to-requires-in-Label2Label
-read_to-requires-in-Label2Label c = let w = c.args in let g = c.x-in-Label2Label-1.given in read_fits w.numbers.now w.bytes.now w.c w.x label2label g.0.0 g.0.1.0 g.0.1.1.0 g.0.1.1.1.0 g.1 c.requires
+read_to-requires-in-Label2Label c = let w = c.args in let g = c.in-Label2Label in read_fits w.numbers.now w.bytes.now w.c w.x label2label g.a g.b g.m g.n g.is c.requires
 
--- TODO given of x5
 pub add_label2label-requires : goal.add_label2label-requires
-add_label2label-requires c = let w = c.args in let g = c.x-in-Label2Label-1.given in addable w.numbers.now w.bytes.now w.c w.x label2label g.0.0 g.0.1.0 g.0.1.1.0 g.0.1.1.1.0 g.1 c.requires c.row_of-in-Label2Label.result c.read_to-in-Label2Label.result c.row_of-in-Label2Label.ensures c.read_to-in-Label2Label.ensures
+add_label2label-requires c = let w = c.args in let g = c.in-Label2Label in addable w.numbers.now w.bytes.now w.c w.x label2label g.a g.b g.m g.n g.is c.requires c.row_of-in-Label2Label.result c.read_to-in-Label2Label.result c.row_of-in-Label2Label.ensures c.read_to-in-Label2Label.ensures
 
--- TODO given of x
 pub returns-in-Text2Dest : goal.returns-in-Text2Dest
-returns-in-Text2Dest c = let w = c.args in let g = c.x-1.given in record { step = text2dest-adds w.numbers.now w.bytes.now w.c w.x g.0.0 g.0.1.0 g.0.1.1.0 g.0.1.1.1.0 g.1 c.requires c.row_of.result c.read_to.result c.row_of.ensures c.read_to.ensures c.add_link.new.numbers c.add_link.result c.add_link.ensures.step c.add_link.ensures.row w.render; held = text2dest-held w.numbers.now w.bytes.now w.c w.x g.0.0 g.0.1.0 g.0.1.1.0 g.0.1.1.1.0 g.1 c.requires c.row_of.result c.read_to.result c.row_of.ensures c.read_to.ensures c.add_link.new.numbers c.add_link.result c.add_link.ensures.step c.add_link.ensures.row }
+returns-in-Text2Dest c = let w = c.args in let g = c.in-Text2Dest in record { step = text2dest-adds w.numbers.now w.bytes.now w.c w.x g.a g.b g.m g.n g.is c.requires c.row_of.result c.read_to.result c.row_of.ensures c.read_to.ensures c.add_link.new.numbers c.add_link.result c.add_link.ensures.step c.add_link.ensures.row w.render; held = text2dest-held w.numbers.now w.bytes.now w.c w.x g.a g.b g.m g.n g.is c.requires c.row_of.result c.read_to.result c.row_of.ensures c.read_to.ensures c.add_link.new.numbers c.add_link.result c.add_link.ensures.step c.add_link.ensures.row }
 
--- TODO given of x2
 pub returns-in-TextLabel2Dest : goal.returns-in-TextLabel2Dest
-returns-in-TextLabel2Dest c = let w = c.args in let g = c.x-in-TextLabel2Dest-1.given in record { step = text-label2dest-adds w.numbers.now w.bytes.now w.c w.x g.0.0 g.0.1.0 g.0.1.1.0 g.0.1.1.1.0 g.1 c.requires c.row_of-row.result c.read_to-in-TextLabel2Dest.result c.row_of-row.ensures c.read_to-in-TextLabel2Dest.ensures c.add_both.new.numbers c.add_both.result c.add_both.ensures.step c.add_both.ensures.rows w.render; held = text-label2dest-held w.numbers.now w.bytes.now w.c w.x g.0.0 g.0.1.0 g.0.1.1.0 g.0.1.1.1.0 g.1 c.requires c.row_of-row.result c.read_to-in-TextLabel2Dest.result c.row_of-row.ensures c.read_to-in-TextLabel2Dest.ensures c.add_both.new.numbers c.add_both.result c.add_both.ensures.step c.add_both.ensures.rows }
+returns-in-TextLabel2Dest c = let w = c.args in let g = c.in-TextLabel2Dest in record { step = text-label2dest-adds w.numbers.now w.bytes.now w.c w.x g.a g.b g.m g.n g.is c.requires c.row_of-row.result c.read_to-in-TextLabel2Dest.result c.row_of-row.ensures c.read_to-in-TextLabel2Dest.ensures c.add_both.new.numbers c.add_both.result c.add_both.ensures.step c.add_both.ensures.rows w.render; held = text-label2dest-held w.numbers.now w.bytes.now w.c w.x g.a g.b g.m g.n g.is c.requires c.row_of-row.result c.read_to-in-TextLabel2Dest.result c.row_of-row.ensures c.read_to-in-TextLabel2Dest.ensures c.add_both.new.numbers c.add_both.result c.add_both.ensures.step c.add_both.ensures.rows }
 
--- TODO given of x3
 pub returns-in-Text2Label : goal.returns-in-Text2Label
-returns-in-Text2Label c = let w = c.args in let g = c.x-in-Text2Label-1.given in record { step = λ (s : List ℕ). c.add_text2label.ensures.step s ∙ adds-scanned w.numbers.now w.bytes.now w.c w.x text2label g.0.0 g.0.1.0 g.0.1.1.0 g.0.1.1.1.0 g.1 c.requires c.row_of-in-Text2Label.result c.read_to-in-Text2Label.result c.row_of-in-Text2Label.ensures c.read_to-in-Text2Label.ensures w.render s; held = held_at w.numbers.now w.bytes.now w.c w.x text2label g.0.0 g.0.1.0 g.0.1.1.0 g.0.1.1.1.0 g.1 c.requires c.row_of-in-Text2Label.result c.read_to-in-Text2Label.result c.row_of-in-Text2Label.ensures c.read_to-in-Text2Label.ensures c.add_text2label.new.numbers c.add_text2label.result c.add_text2label.ensures.held }
+returns-in-Text2Label c = let w = c.args in let g = c.in-Text2Label in record { step = λ (s : List ℕ). c.add_text2label.ensures.step s ∙ adds-scanned w.numbers.now w.bytes.now w.c w.x text2label g.a g.b g.m g.n g.is c.requires c.row_of-in-Text2Label.result c.read_to-in-Text2Label.result c.row_of-in-Text2Label.ensures c.read_to-in-Text2Label.ensures w.render s; held = held_at w.numbers.now w.bytes.now w.c w.x text2label g.a g.b g.m g.n g.is c.requires c.row_of-in-Text2Label.result c.read_to-in-Text2Label.result c.row_of-in-Text2Label.ensures c.read_to-in-Text2Label.ensures c.add_text2label.new.numbers c.add_text2label.result c.add_text2label.ensures.held }
 
--- TODO given of x4
 pub returns-in-Label2Dest : goal.returns-in-Label2Dest
-returns-in-Label2Dest c = let w = c.args in let g = c.x-in-Label2Dest-1.given in record { step = λ (s : List ℕ). c.add_label2dest.ensures.step s ∙ adds-scanned w.numbers.now w.bytes.now w.c w.x label2dest g.0.0 g.0.1.0 g.0.1.1.0 g.0.1.1.1.0 g.1 c.requires c.row_of-in-Label2Dest.result c.read_to-in-Label2Dest.result c.row_of-in-Label2Dest.ensures c.read_to-in-Label2Dest.ensures w.render s; held = held_at w.numbers.now w.bytes.now w.c w.x label2dest g.0.0 g.0.1.0 g.0.1.1.0 g.0.1.1.1.0 g.1 c.requires c.row_of-in-Label2Dest.result c.read_to-in-Label2Dest.result c.row_of-in-Label2Dest.ensures c.read_to-in-Label2Dest.ensures c.add_label2dest.new.numbers c.add_label2dest.result c.add_label2dest.ensures.held }
+returns-in-Label2Dest c = let w = c.args in let g = c.in-Label2Dest in record { step = λ (s : List ℕ). c.add_label2dest.ensures.step s ∙ adds-scanned w.numbers.now w.bytes.now w.c w.x label2dest g.a g.b g.m g.n g.is c.requires c.row_of-in-Label2Dest.result c.read_to-in-Label2Dest.result c.row_of-in-Label2Dest.ensures c.read_to-in-Label2Dest.ensures w.render s; held = held_at w.numbers.now w.bytes.now w.c w.x label2dest g.a g.b g.m g.n g.is c.requires c.row_of-in-Label2Dest.result c.read_to-in-Label2Dest.result c.row_of-in-Label2Dest.ensures c.read_to-in-Label2Dest.ensures c.add_label2dest.new.numbers c.add_label2dest.result c.add_label2dest.ensures.held }
 
--- TODO given of x5
 pub returns-in-Label2Label : goal.returns-in-Label2Label
-returns-in-Label2Label c = let w = c.args in let g = c.x-in-Label2Label-1.given in record { step = λ (s : List ℕ). c.add_label2label.ensures.step s ∙ adds-scanned w.numbers.now w.bytes.now w.c w.x label2label g.0.0 g.0.1.0 g.0.1.1.0 g.0.1.1.1.0 g.1 c.requires c.row_of-in-Label2Label.result c.read_to-in-Label2Label.result c.row_of-in-Label2Label.ensures c.read_to-in-Label2Label.ensures w.render s; held = held_at w.numbers.now w.bytes.now w.c w.x label2label g.0.0 g.0.1.0 g.0.1.1.0 g.0.1.1.1.0 g.1 c.requires c.row_of-in-Label2Label.result c.read_to-in-Label2Label.result c.row_of-in-Label2Label.ensures c.read_to-in-Label2Label.ensures c.add_label2label.new.numbers c.add_label2label.result c.add_label2label.ensures.held }
+returns-in-Label2Label c = let w = c.args in let g = c.in-Label2Label in record { step = λ (s : List ℕ). c.add_label2label.ensures.step s ∙ adds-scanned w.numbers.now w.bytes.now w.c w.x label2label g.a g.b g.m g.n g.is c.requires c.row_of-in-Label2Label.result c.read_to-in-Label2Label.result c.row_of-in-Label2Label.ensures c.read_to-in-Label2Label.ensures w.render s; held = held_at w.numbers.now w.bytes.now w.c w.x label2label g.a g.b g.m g.n g.is c.requires c.row_of-in-Label2Label.result c.read_to-in-Label2Label.result c.row_of-in-Label2Label.ensures c.read_to-in-Label2Label.ensures c.add_label2label.new.numbers c.add_label2label.result c.add_label2label.ensures.held }

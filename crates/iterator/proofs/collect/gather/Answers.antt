@@ -20,28 +20,6 @@ use mathlib.Core.Path.{◌≡◌, refl, sym, ap, subst, subst⁻¹, ◌∙◌}
 use Prim.Native.Nat.{ℕ, ◌-◌, ◌≤◌}
 use Rattle.iterator.proofs.collect.gather.Goals as goal
 
--- TODO part-next-link-start-2 : tie.Need-slice-bounds-next-link-start-2 invariant-loop decreases-loop
--- TODO part-next-link-start-2 c =
--- TODO     let a = c.before.before.before.before.before.before.before.before.before in
--- TODO     let l = c.before.before.before.loop in
--- TODO     let s = a.args.document.now in
--- TODO     let q : Roomy l.numbers l.bytes = (omega (arith, l.invariant.0, a.requires.1.0), omega (arith, l.invariant.1, a.requires.1.0)) in
--- TODO     omega (arith, filled s l.numbers l.bytes l.c l.invariant.2 l.invariant.3 a.requires.0 q, q)
-
--- TODO part-next-link-end-2 : tie.Need-slice-bounds-next-link-end-2 invariant-loop decreases-loop
--- TODO part-next-link-end-2 c =
--- TODO     let a = c.before.before.before.before.before.before.before.before.before in
--- TODO     let l = c.before.before.before.loop in
--- TODO     let s = a.args.document.now in
--- TODO     let q : Roomy l.numbers l.bytes = (omega (arith, l.invariant.0, a.requires.1.0), omega (arith, l.invariant.1, a.requires.1.0)) in
--- TODO     omega (arith, filled s l.numbers l.bytes l.c l.invariant.2 l.invariant.3 a.requires.0 q, q)
-
--- TODO part-next-link-start-3 : tie.Need-slice-bounds-next-link-start-3 invariant-loop decreases-loop
--- TODO part-next-link-start-3 c = omega (arith, c.before.before.before.before.loop.invariant.3, c.before.before.before.before.loop.invariant.6, c.before.before.before.before.before.before.before.before.before.before.requires.1.1.0)
-
--- TODO part-next-link-end-3 : tie.Need-slice-bounds-next-link-end-3 invariant-loop decreases-loop
--- TODO part-next-link-end-3 c = omega (arith, c.before.before.before.before.loop.invariant.3, c.before.before.before.before.loop.invariant.6, c.before.before.before.before.before.before.before.before.before.before.requires.1.1.0)
-
 pub loop-c-init : goal.loop-c-init
 loop-c-init c =
     let w = c.args in
@@ -81,15 +59,18 @@ pub next_link-scanned-requires : goal.next_link-scanned-requires
 next_link-scanned-requires c =
     let s = c.args.document.now in
     let l = c.loop-c in
-    subst⁻¹ (λ (z : List ℕ). Holds 0 l.known z (take (length s - l.c.at) (drop l.c.at s))) (part-from l.marks l.c.at)
-    (subst⁻¹ (Holds 0 l.known (drop l.c.at l.marks)) (part-from s l.c.at) l.invariant.5)
+    record {
+      known =
+          subst⁻¹ (λ (z : List ℕ). Holds 0 l.known z (take (length s - l.c.at) (drop l.c.at s))) (part-from l.marks l.c.at)
+          (subst⁻¹ (Holds 0 l.known (drop l.c.at l.marks)) (part-from s l.c.at) l.invariant.5);
+    }
 
 pub add-requires : goal.add-requires
 add-requires c =
     let l = c.loop-c in
     let s = c.args.document.now in
     let q : Roomy l.numbers l.bytes = (omega (arith, l.invariant.0, c.requires.1.0), omega (arith, l.invariant.1, c.requires.1.0)) in
-    scannable s l.numbers l.bytes l.c l.invariant.2 l.invariant.3 c.requires.0 q c.next_link-scanned.result.scan c.next_link-scanned.new.scratch c.next_link-scanned.ensures.scan _ c.in-Found.is (omega (arith, c.next_link-scanned.auto.known)) c.next_link-scanned.ensures.ends
+    scannable s l.numbers l.bytes l.c l.invariant.2 l.invariant.3 c.requires.0 q c.next_link-scanned.result.scan c.next_link-scanned.new.scratch c.next_link-scanned.ensures.scan _ c.in-Found.is (omega (arith, c.next_link-scanned.auto.scratch)) c.next_link-scanned.ensures.ends
 
 pub loop-c-smaller : goal.loop-c-smaller
 loop-c-smaller c =
@@ -108,7 +89,7 @@ loop-c-preserved c =
     let v = inside s l.numbers l.bytes l.c l.invariant.2 l.invariant.3 c.requires.0 q c.next_link-scanned.result.scan c.next_link-scanned.new.scratch c.next_link-scanned.ensures.scan _ c.in-Found.is in
     let u = next-held s l.numbers l.bytes l.c l.invariant.2 l.invariant.3 c.requires.0 q c.next_link-scanned.result.scan c.next_link-scanned.new.scratch c.next_link-scanned.ensures.scan _ c.in-Found.is c.args.render c.add.new.numbers c.add.new.bytes c.add.result c.add.ensures.step c.add.ensures.held _ c.in-Next.is in (
       omega (arith, l.invariant.0, c.add.auto.numbers),
-      omega (arith, l.invariant.1, c.add.auto.bytes, c.next_link-scanned.auto.known),
+      omega (arith, l.invariant.1, c.add.auto.bytes, c.next_link-scanned.auto.scratch),
       u.0,
       omega (arith, v.1, u.1),
       l.invariant.4 ∙ next-goes s l.numbers l.bytes l.c l.invariant.2 l.invariant.3 c.requires.0 q c.next_link-scanned.result.scan c.next_link-scanned.new.scratch c.next_link-scanned.ensures.scan _ c.in-Found.is c.args.render c.add.new.numbers c.add.new.bytes c.add.result c.add.ensures.step c.add.ensures.held _ c.in-Next.is,
@@ -132,7 +113,7 @@ pub returns-in-NoRoom : goal.returns-in-NoRoom
 returns-in-NoRoom c =
     let l = c.loop-c in
     let s = c.args.document.now in
-    let q : Roomy l.numbers l.bytes = (omega (arith, l.invariant.0, c.requires.1.0), omega (arith, l.invariant.1, c.requires.1.0)) in let pair = absurd (room-always s l.numbers l.bytes l.c l.invariant.2 l.invariant.3 c.requires.0 q c.next_link-scanned.result.scan c.next_link-scanned.new.scratch c.next_link-scanned.ensures.scan c.in-NoRoom.is) in record { step = pair.0; held = pair.1 }
+    let q : Roomy l.numbers l.bytes = (omega (arith, l.invariant.0, c.requires.1.0), omega (arith, l.invariant.1, c.requires.1.0)) in absurd (room-always s l.numbers l.bytes l.c l.invariant.2 l.invariant.3 c.requires.0 q c.next_link-scanned.result.scan c.next_link-scanned.new.scratch c.next_link-scanned.ensures.scan c.in-NoRoom.is)
 
 pub returns : goal.returns
 returns c =

@@ -7,10 +7,6 @@ use borrow.Author.Rules.{rules}
 use Rattle.iterator.proofs.RecordLaws.{rendered-within, rendered-length, goal-length, plain-within, text-plain}
 use Rattle.iterator.proofs.records.record_len.Goals as goal
 
-record-len-spec =
-    tie.close
-    (tie.spec add-result add-result-2 returns text-of-requires add-result-3 add-result-4 returns-2)
-
 pub overflow_add-result : goal.overflow_add-result
 overflow_add-result c = omega (arith, rendered-within c.args.document.now c.args.bytes.now c.args.x c.requires c.if-x-eq-RENDERED.true)
 

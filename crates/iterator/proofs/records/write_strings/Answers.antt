@@ -1,6 +1,7 @@
 -- `records::write_strings` meets its contract: the head, the text behind it, and the destination behind both.
 -- Assumes nothing.
 use mathlib.Core.Path.{refl}
+use lib.Seq.{take-length}
 use borrow.Author.Rules.{rules}
 use Rattle.iterator.proofs.RecordLaws.{strings-written}
 use Rattle.iterator.proofs.records.write_strings.Goals as goal
@@ -12,7 +13,7 @@ returns c =
           c.copy.new.d c.copy-2.new.d
           c.requires.1
           c.write_head.ensures
-          c.copy.ensures
-          c.copy-2.ensures;
+          (rw (take-length a.text.now) c.copy.ensures)
+          (rw (take-length a.dest.now) c.copy-2.ensures);
       size = refl;
     }

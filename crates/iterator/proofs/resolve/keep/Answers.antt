@@ -8,9 +8,6 @@ use Rattle.iterator.specs.declared.resolve.Resolved.{Resolved}
 use Rattle.iterator.proofs.ReferenceLaws.{keep-fits, keep-size}
 use Rattle.iterator.proofs.resolve.keep.Goals as goal
 
-record-len-requires : tie.Need-record-len-requires
-record-len-requires c κs = search rules
-
 pub put_link-requires : goal.put_link-requires
 put_link-requires c = keep-fits c.args.x c.args.r c.args.document.now c.args.numbers.now c.args.bytes.now c.requires
 

@@ -33,14 +33,14 @@ loop-v-smaller c =
     let l = c.loop-v in
     let a = c.args in
     let on = walked_on a.aliases a.destinations a.numbers.now a.bytes.now l.numbers l.v l.invariant.0 in
-    (on c.loop-v-test.true c.wrapped.result c.wrapped.ensures _ c.try_alias-v.result c.try_alias-v.ensures.?).1
+    (on c.loop-v-test.true c.wrapped.result c.wrapped.ensures _ c.try_alias-v.result (c.try_alias-v.ensures.walk, (c.try_alias-v.ensures.walking, (c.try_alias-v.ensures.fewer, c.try_alias-v.ensures.links)))).1
 
 pub loop-v-preserved : goal.loop-v-preserved
 loop-v-preserved c =
     let l = c.loop-v in
     let a = c.args in
     let on = walked_on a.aliases a.destinations a.numbers.now a.bytes.now l.numbers l.v l.invariant.0 in
-    let next = on c.loop-v-test.true c.wrapped.result c.wrapped.ensures _ c.try_alias-v.result c.try_alias-v.ensures.? in
+    let next = on c.loop-v-test.true c.wrapped.result c.wrapped.ensures _ c.try_alias-v.result (c.try_alias-v.ensures.walk, (c.try_alias-v.ensures.walking, (c.try_alias-v.ensures.fewer, c.try_alias-v.ensures.links))) in
     (next.0, c.try_alias-v.auto.numbers ∙ l.invariant.1)
 
 pub shape_of-numbers : goal.shape_of-numbers
@@ -49,4 +49,4 @@ shape_of-numbers c = c.loop-v.invariant.1
 pub returns : goal.returns
 returns c =
     let a = c.args in
-    let l = c.loop-v in let pair = ended a.aliases a.destinations a.numbers.now a.bytes.now l.numbers l.v l.invariant.0 c.loop-v-test.false in record { resolved = pair.0; held = pair.1 }
+    let l = c.loop-v in let done = ended a.aliases a.destinations a.numbers.now a.bytes.now l.numbers l.v l.invariant.0 c.loop-v-test.false in record { resolved = done.0; held = done.1 }

@@ -12,7 +12,7 @@ index_names-requires c = c.requires.names
 
 pub loop-i-init : goal.loop-i-init
 loop-i-init c =
-    let k = references-kept _ _ _ c.args.numbers.now c.index_names.new.numbers _ c.requires c.index_names.auto.1.0 c.index_names.ensures.kept in
+    let k = references-kept _ _ _ c.args.numbers.now c.index_names.new.numbers _ c.requires c.index_names.auto.numbers c.index_names.ensures.kept in
     references-start _ _ _ _ _ k.0 c.index_names.ensures.indexed
 
 pub resolve_link-r-requires : goal.resolve_link-r-requires
@@ -27,13 +27,12 @@ loop-i-smaller c = omega arith
 pub loop-i-preserved : goal.loop-i-preserved
 loop-i-preserved c =
     let v = c.loop-i.invariant in
-    let e = c.resolve_link-r.ensures.? in
-    record { long = c.resolve_link-r.auto.1.1.1.1.1.0 ∙ v.long; held = e.1; links = e.0 ∙ v.links }
+    record { long = c.resolve_link-r.auto.numbers ∙ v.long; held = c.resolve_link-r.ensures.held; links = c.resolve_link-r.ensures.links ∙ v.links }
 
 pub shape_of-numbers : goal.shape_of-numbers
-shape_of-numbers c = c.loop-i.invariant.long ∙ c.index_names.auto.1.0
+shape_of-numbers c = c.loop-i.invariant.long ∙ c.index_names.auto.numbers
 
 pub returns : goal.returns
 returns c =
-    let k = references-kept _ _ _ c.args.numbers.now c.index_names.new.numbers _ c.requires c.index_names.auto.1.0 c.index_names.ensures.kept in
+    let k = references-kept _ _ _ c.args.numbers.now c.index_names.new.numbers _ c.requires c.index_names.auto.numbers c.index_names.ensures.kept in
     let d = references-done _ _ _ _ _ _ _ _ c.loop-i.invariant c.loop-i-test.false in record { links = d.0 ∙ k.1; held = d.1 }
