@@ -11,7 +11,6 @@ use mathlib.Core.Bool.{Bool, true, false, true≢false}
 use lib.ListN.{length, length-map}
 use borrow.Author.Tests.{lt-ltb, le-ltb}
 use Rattle.rst_bytes.proofs.TestLaws.{lt-or-le}
-use Rattle.parse.specs.Link.{label2dest, label2label}
 use Rattle.iterator.specs.declared.rows.PairRow.{PairRow}
 use Rattle.iterator.specs.declared.rows.LinkRow.{LinkRow}
 use Rattle.iterator.specs.declared.collect.MarkupLinkCollection.{MarkupLinkCollection}

@@ -4,7 +4,6 @@ use Prim.Native.Nat.{ℕ}
 use mathlib.Core.Path.{ap, ◌∙◌}
 use lib.ListN.{replicate}
 use Rattle.iterator.proofs.DocumentLaws.{meets-zeroed}
-use borrow.Author.Rules.{rules}
 use Rattle.iterator.proofs.document.Goals as goal
 
 pub returns : goal.returns

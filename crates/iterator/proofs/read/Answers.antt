@@ -14,7 +14,6 @@ use Rattle.iterator.proofs.DocumentLaws.{
   writing,
   told-written,
 }
-use borrow.Author.Rules.{rules}
 use Rattle.iterator.proofs.read.Goals.{In-Next, After-resolve_text2label_references-r}
 use Rattle.iterator.proofs.read.Goals as goal
 

@@ -4,7 +4,6 @@ use mathlib.Core.Path.{sym, ◌∙◌}
 use native.Mathlib.Omega.{arith}
 use Rattle.rst_bytes.proofs.DomainLaws.{outside-within}
 use Rattle.iterator.proofs.DocumentLaws.{meets-render, meets-long, meets-numbers, meets-bytes, meets-outside, meets-read}
-use borrow.Author.Rules.{rules}
 use Rattle.iterator.proofs.work.Goals as goal
 
 pub returns-then-render-gt1 : goal.returns-then-render-gt1

@@ -1,9 +1,7 @@
 -- `clear_bytes` meets its contract: after i turns the first i bytes are 0.
 -- Assumes nothing.
-use Prim.Native.Nat.{◌-◌}
 use native.Mathlib.Omega.{arith}
-use lib.ListN.{length}
-use Rattle.targetless.proofs.ClearLaws.{Cleared, clear_none, clear-more, clear-all}
+use Rattle.targetless.proofs.ClearLaws.{clear_none, clear-more, clear-all}
 use Rattle.iterator.proofs.areas.clear_bytes.Goals as goal
 
 pub loop-i-init : goal.loop-i-init

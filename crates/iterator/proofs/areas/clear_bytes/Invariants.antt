@@ -1,9 +1,8 @@
 -- `clear_bytes` meets its contract: after i turns the first i bytes are 0.
 -- Assumes nothing.
 use Prim.Native.Nat.{◌-◌}
-use native.Mathlib.Omega.{arith}
 use lib.ListN.{length}
-use Rattle.targetless.proofs.ClearLaws.{Cleared, clear_none, clear-more, clear-all}
+use Rattle.targetless.proofs.ClearLaws.{Cleared}
 use Rattle.iterator.proofs.areas.clear_bytes.Given as goal
 
 abbrev pub invariant-loop-i : goal.invariant-loop-i

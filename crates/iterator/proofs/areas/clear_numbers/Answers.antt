@@ -1,9 +1,7 @@
 -- `clear_numbers` meets its contract: after i turns the first i numbers are 0.
 -- Assumes nothing.
-use Prim.Native.Nat.{◌-◌}
 use native.Mathlib.Omega.{arith}
-use lib.ListN.{length}
-use Rattle.targetless.proofs.ClearLaws.{Cleared, clear_none, clear-more, clear-all}
+use Rattle.targetless.proofs.ClearLaws.{clear_none, clear-more, clear-all}
 use Rattle.iterator.proofs.areas.clear_numbers.Goals as goal
 
 pub loop-i-init : goal.loop-i-init

@@ -5,7 +5,6 @@ use Rattle.parse.specs.Link.{text2dest, text-label2dest, text2label, label2dest,
 use mathlib.Core.Path.{◌∙◌}
 use mathlib.Core.List.{List}
 use Prim.Native.Nat.{ℕ}
-use borrow.Author.Rules.{rules}
 use Rattle.iterator.proofs.collect.add.Goals as goal
 
 pub row_of-requires : goal.row_of-requires

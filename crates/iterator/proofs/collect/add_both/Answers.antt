@@ -2,7 +2,6 @@
 -- Assumes nothing.
 use Rattle.iterator.proofs.CollectLaws.{next-names, both_some, both-none}
 use native.Mathlib.Omega.{arith}
-use borrow.Author.Rules.{rules}
 use Rattle.iterator.proofs.collect.add_both.Goals as goal
 
 pub add_destination-requires : goal.add_destination-requires

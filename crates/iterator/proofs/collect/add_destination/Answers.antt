@@ -6,7 +6,6 @@ use Rattle.iterator.proofs.CollectLaws.{room-some, room-none}
 use Rattle.iterator.specs.declared.collect.Step.TheVariants.{Next, Refused}
 use Prim.Native.Nat.{◌+◌, ◌*◌}
 use mathlib.Core.Path.{sym, ◌∙◌}
-use borrow.Author.Rules.{rules}
 use Rattle.iterator.proofs.collect.add_destination.Goals as goal
 
 pub returns-then-c-lt-ROWS_MAX : goal.returns-then-c-lt-ROWS_MAX

@@ -5,7 +5,6 @@ use Rattle.iterator.proofs.CollectLaws.{step_by, step-held-by}
 use mathlib.Core.List.{List}
 use Prim.Native.Nat.{ℕ}
 use mathlib.Core.Path.{◌∙◌}
-use borrow.Author.Rules.{rules}
 use Rattle.iterator.proofs.collect.add_label2label.Goals as goal
 
 pub returns : goal.returns

@@ -2,22 +2,14 @@
 -- known is true of what stands behind `at`, with the marks from there on. The measure is what is left of the document; each link found has at least one
 -- byte (ReadingLaws).
 -- Assumes nothing.
-use Rattle.iterator.proofs.ReadingLaws.{filled, inside, scannable, next-held, next-goes, next_known, refused-goes, none-goes, room-always, end_goes, start-goes, start-held}
-use Rattle.iterator.specs.Inner.{Held, Roomy, collection_of}
+use Rattle.iterator.specs.Inner.{Held, collection_of}
 use Rattle.iterator.specs.Collect.{collect_all, collect_from}
-use Rattle.iterator.specs.declared.collect.MarkupLinkCollection.{MarkupLinkCollection}
-use Rattle.parse.specs.declared.Known.{Known}
 use Rattle.parse.specs.Links.{links_from, links_of}
 use Rattle.parse.specs.Forms.{rst}
 use Rattle.parse.specs.Inner.{Holds}
-use Rattle.parse.proofs.OnwardLaws.{holds-nothing}
-use Rattle.rst_bytes.proofs.Lists.{part-from}
-use borrow.Author.Rules.{rules}
-use lib.ListN.{length, take, drop}
-use native.Mathlib.Omega.{arith}
-use mathlib.Core.List.{List}
-use mathlib.Core.Path.{◌≡◌, refl, sym, ap, subst, subst⁻¹, ◌∙◌}
-use Prim.Native.Nat.{ℕ, ◌-◌, ◌≤◌}
+use lib.ListN.{length, drop}
+use mathlib.Core.Path.{◌≡◌}
+use Prim.Native.Nat.{◌-◌, ◌≤◌}
 use Rattle.iterator.proofs.collect.gather.Given as goal
 
 abbrev pub invariant-loop-c : goal.invariant-loop-c

@@ -2,7 +2,6 @@
 -- Assumes nothing.
 use Rattle.iterator.specs.declared.counters.Counters.{Counters}
 use mathlib.Core.Path.{ap}
-use borrow.Author.Rules.{rules}
 use Rattle.iterator.proofs.collect.new.Goals as goal
 
 pub returns : goal.returns

@@ -12,7 +12,6 @@ use lib.Seq.{length-take-le}
 use lib.ListN.{length, drop, length-drop}
 use native.Mathlib.Omega.{arith}
 use mathlib.Core.Path.{◌∙◌, refl, sym, ap}
-use borrow.Author.Rules.{rules}
 use Rattle.iterator.proofs.collect.target_name.Goals as goal
 
 pub write_numbered-n-requires : goal.write_numbered-n-requires

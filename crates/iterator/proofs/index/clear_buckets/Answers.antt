@@ -1,10 +1,8 @@
 -- `index::clear_buckets` meets its contract. The loop's invariant: the first i buckets have no row, and the tables are as they were.
 -- Assumes nothing.
-use Prim.Native.Nat.{◌-◌, ◌≤◌}
-use mathlib.Core.Path.{◌≡◌, refl, ◌∙◌}
+use mathlib.Core.Path.{refl, ◌∙◌}
 use native.Mathlib.Omega.{arith}
-use lib.ListN.{length, length-set}
-use Rattle.iterator.specs.Index.{Unindexed}
+use lib.ListN.{length-set}
 use Rattle.iterator.proofs.IndexLaws.{unindexed-start, unindexed-more, unindexed-done}
 use Rattle.iterator.proofs.index.clear_buckets.Goals as goal
 

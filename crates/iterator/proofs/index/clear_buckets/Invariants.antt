@@ -1,11 +1,9 @@
 -- `index::clear_buckets` meets its contract. The loop's invariant: the first i buckets have no row, and the tables are as they were.
 -- Assumes nothing.
 use Prim.Native.Nat.{◌-◌, ◌≤◌}
-use mathlib.Core.Path.{◌≡◌, refl, ◌∙◌}
-use native.Mathlib.Omega.{arith}
-use lib.ListN.{length, length-set}
+use mathlib.Core.Path.{◌≡◌}
+use lib.ListN.{length}
 use Rattle.iterator.specs.Index.{Unindexed}
-use Rattle.iterator.proofs.IndexLaws.{unindexed-start, unindexed-more, unindexed-done}
 use Rattle.iterator.proofs.index.clear_buckets.Given as goal
 
 abbrev pub invariant-loop-i : goal.invariant-loop-i

@@ -1,10 +1,9 @@
 -- `index::index_names` meets its contract. The loop's invariant, `Indexing`: the first i rows are in the index, and the tables are as they
 -- were. The measure is how many rows are left.
 -- Assumes nothing.
-use Prim.Native.Nat.{◌-◌}
 use native.Mathlib.Omega.{arith}
 use mathlib.Core.Path.{◌∙◌}
-use Rattle.iterator.proofs.IndexLaws.{Indexing, indexing-start, can-index, indexing-more, indexing-done}
+use Rattle.iterator.proofs.IndexLaws.{indexing-start, can-index, indexing-more, indexing-done}
 use Rattle.iterator.proofs.index.index_names.Goals as goal
 
 pub clear_buckets-requires : goal.clear_buckets-requires

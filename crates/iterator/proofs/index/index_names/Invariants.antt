@@ -2,9 +2,7 @@
 -- were. The measure is how many rows are left.
 -- Assumes nothing.
 use Prim.Native.Nat.{◌-◌}
-use native.Mathlib.Omega.{arith}
-use mathlib.Core.Path.{◌∙◌}
-use Rattle.iterator.proofs.IndexLaws.{Indexing, indexing-start, can-index, indexing-more, indexing-done}
+use Rattle.iterator.proofs.IndexLaws.{Indexing}
 use Rattle.iterator.proofs.index.index_names.Given as goal
 
 abbrev pub invariant-loop-i : goal.invariant-loop-i

@@ -1,8 +1,7 @@
 -- `bucket` meets its contract. The loop's invariant, `Counting`: the bytes that are left lead from h to the bucket of the part.
 -- Assumes nothing.
-use Prim.Native.Nat.{◌-◌}
 use native.Mathlib.Omega.{arith}
-use Rattle.iterator.proofs.IndexLaws.{Counting, counting-start, counting_more, counting-end}
+use Rattle.iterator.proofs.IndexLaws.{counting-start, counting_more, counting-end}
 use Rattle.iterator.proofs.names.bucket.Goals as goal
 
 pub overflow_add-end : goal.overflow_add-end

@@ -1,8 +1,7 @@
 -- `bucket` meets its contract. The loop's invariant, `Counting`: the bytes that are left lead from h to the bucket of the part.
 -- Assumes nothing.
 use Prim.Native.Nat.{◌-◌}
-use native.Mathlib.Omega.{arith}
-use Rattle.iterator.proofs.IndexLaws.{Counting, counting-start, counting_more, counting-end}
+use Rattle.iterator.proofs.IndexLaws.{Counting}
 use Rattle.iterator.proofs.names.bucket.Given as goal
 
 abbrev pub invariant-loop-i : goal.invariant-loop-i

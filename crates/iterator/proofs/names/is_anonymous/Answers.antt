@@ -1,6 +1,5 @@
 -- `is_anonymous` meets its contract: by the length of the part.
 -- Assumes nothing.
-use borrow.Author.Rules.{rules}
 use Rattle.iterator.proofs.NamesLaws.{anonymous-one, anonymous-other}
 use Rattle.iterator.proofs.names.is_anonymous.Goals as goal
 

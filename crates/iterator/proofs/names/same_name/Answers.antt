@@ -2,7 +2,7 @@
 -- Assumes nothing.
 use mathlib.Core.Path.{◌∙◌}
 use native.Mathlib.Omega.{arith}
-use Rattle.iterator.proofs.NamesLaws.{Alike, alike-none, alike-more, alike-other, alike_all, part-lengths, part_same}
+use Rattle.iterator.proofs.NamesLaws.{alike-none, alike-more, alike-other, alike_all, part-lengths, part_same}
 use Rattle.iterator.proofs.names.same_name.Goals as goal
 
 pub loop-i-init : goal.loop-i-init

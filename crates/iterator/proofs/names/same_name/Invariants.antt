@@ -1,8 +1,6 @@
 -- `same_name` meets its contract: parts of two lengths are not the same; of one length, the bytes behind the first i are the same.
 -- Assumes nothing.
-use mathlib.Core.Path.{◌∙◌}
-use native.Mathlib.Omega.{arith}
-use Rattle.iterator.proofs.NamesLaws.{Alike, alike-none, alike-more, alike-other, alike_all, part-lengths, part_same}
+use Rattle.iterator.proofs.NamesLaws.{Alike}
 use Rattle.iterator.proofs.names.same_name.Given as goal
 
 abbrev pub invariant-loop-i : goal.invariant-loop-i

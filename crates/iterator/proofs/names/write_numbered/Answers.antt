@@ -2,7 +2,6 @@
 -- Assumes nothing.
 use native.Mathlib.Omega.{arith}
 use lib.ListN.{length-set}
-use borrow.Author.Rules.{rules}
 use Rattle.iterator.proofs.NamesLaws.{front-one, front-two, front-three}
 use Rattle.iterator.proofs.names.write_numbered.Goals as goal
 

@@ -3,7 +3,6 @@
 use mathlib.Core.Path.{ap}
 use native.Mathlib.Omega.{arith}
 use lib.ListN.{length}
-use borrow.Author.Rules.{rules}
 use Rattle.iterator.proofs.RecordLaws.{rendered-within, rendered-length, goal-length, plain-within, text-plain}
 use Rattle.iterator.proofs.records.record_len.Goals as goal
 

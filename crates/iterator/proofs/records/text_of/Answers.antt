@@ -1,7 +1,6 @@
 -- `records::text_of` meets its contract: of a reference what `shown` says, of others the part that the row names.
 -- Assumes nothing.
 use mathlib.Core.Path.{◌∙◌}
-use borrow.Author.Rules.{rules}
 use Rattle.iterator.proofs.RecordLaws.{plain-reference, plain_other, part-lent}
 use Rattle.iterator.proofs.records.text_of.Goals as goal
 

@@ -3,7 +3,6 @@
 use native.Mathlib.Omega.{arith}
 use lib.Seq.{sets-eq}
 use lib.ListN.{length-set}
-use borrow.Author.Rules.{rules}
 use Rattle.iterator.specs.Records.{word_of, bytes8}
 use Rattle.iterator.proofs.records.write_head.Goals as goal
 

@@ -2,7 +2,6 @@
 -- Assumes nothing.
 use mathlib.Core.Path.{sym, ◌∙◌}
 use native.Mathlib.Omega.{arith}
-use borrow.Author.Rules.{rules}
 use Rattle.iterator.proofs.RecordLaws.{part-lent, text-rendered, text-plain, rendered-within, plain-within, record-fits, record-written}
 use Rattle.iterator.proofs.records.write_record.Goals as goal
 

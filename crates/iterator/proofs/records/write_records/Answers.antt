@@ -1,9 +1,8 @@
 -- `records::write_records` meets its contract. The loop's invariant, `Emitted`: what is written so far is the front of all records, and the
 -- records of the links ahead are the rest of them. The measure is how many links are left.
 -- Assumes nothing.
-use Prim.Native.Nat.{◌-◌}
 use native.Mathlib.Omega.{arith}
-use Rattle.iterator.proofs.RecordLaws.{room-left, Emitted, emit-start, emit-length, emit-within, emit-order, emit-fits, emit-turn, emit-done}
+use Rattle.iterator.proofs.RecordLaws.{room-left, emit-start, emit-length, emit-within, emit-order, emit-fits, emit-turn, emit-done}
 use Rattle.iterator.proofs.records.write_records.Goals as goal
 
 pub loop-i-init : goal.loop-i-init

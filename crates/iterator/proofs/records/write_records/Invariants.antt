@@ -2,8 +2,7 @@
 -- records of the links ahead are the rest of them. The measure is how many links are left.
 -- Assumes nothing.
 use Prim.Native.Nat.{◌-◌}
-use native.Mathlib.Omega.{arith}
-use Rattle.iterator.proofs.RecordLaws.{room-left, Emitted, emit-start, emit-length, emit-within, emit-order, emit-fits, emit-turn, emit-done}
+use Rattle.iterator.proofs.RecordLaws.{Emitted}
 use Rattle.iterator.proofs.records.write_records.Given as goal
 
 abbrev pub invariant-loop-i : goal.invariant-loop-i

@@ -2,7 +2,6 @@
 -- Assumes nothing.
 use mathlib.Core.Path.{refl}
 use lib.Seq.{take-length}
-use borrow.Author.Rules.{rules}
 use Rattle.iterator.proofs.RecordLaws.{strings-written}
 use Rattle.iterator.proofs.records.write_strings.Goals as goal
 

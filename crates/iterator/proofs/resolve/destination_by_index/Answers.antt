@@ -6,7 +6,7 @@ use Prim.Native.Nat.{◌+◌, ◌-◌}
 use native.Mathlib.Omega.{arith}
 use mathlib.Core.Path.{sym, ◌∙◌}
 use Rattle.iterator.proofs.LookupLaws.{row_same, row_within}
-use Rattle.iterator.proofs.IndexLaws.{Seeking, seeking-start, seeking-more, earlier-less, seeking-end}
+use Rattle.iterator.proofs.IndexLaws.{seeking-start, seeking-more, earlier-less, seeking-end}
 use Rattle.iterator.proofs.resolve.destination_by_index.Goals as goal
 
 pub bucket-b-requires : goal.bucket-b-requires

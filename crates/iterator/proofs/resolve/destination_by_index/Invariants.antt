@@ -2,11 +2,7 @@
 -- `i`, since none of the others has it; the last of these is of the name's bucket. The measure is `i`: the row before it in its bucket is
 -- an earlier one.
 -- Assumes nothing.
-use Prim.Native.Nat.{◌+◌, ◌-◌}
-use native.Mathlib.Omega.{arith}
-use mathlib.Core.Path.{sym, ◌∙◌}
-use Rattle.iterator.proofs.LookupLaws.{row_same, row_within}
-use Rattle.iterator.proofs.IndexLaws.{Seeking, seeking-start, seeking-more, earlier-less, seeking-end}
+use Rattle.iterator.proofs.IndexLaws.{Seeking}
 use Rattle.iterator.proofs.resolve.destination_by_index.Given as goal
 
 abbrev pub invariant-loop-i : goal.invariant-loop-i

@@ -1,7 +1,6 @@
 -- `resolve::destination_of` meets its contract. The loop's invariant: the name has in all rows what it has in the first `i`, since none of
 -- the others has it. At the end these are the rows in which it has nothing. The measure is how many rows are left.
 -- Assumes nothing.
-use Prim.Native.Nat.{◌≤◌}
 use native.Mathlib.Omega.{arith}
 use mathlib.Core.Path.{◌≡◌, refl, ap, sym, ◌∙◌}
 use Rattle.restructured_text.specs.Strings.{part}

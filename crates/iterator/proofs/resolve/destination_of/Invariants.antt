@@ -2,12 +2,10 @@
 -- the others has it. At the end these are the rows in which it has nothing. The measure is how many rows are left.
 -- Assumes nothing.
 use Prim.Native.Nat.{◌≤◌}
-use native.Mathlib.Omega.{arith}
-use mathlib.Core.Path.{◌≡◌, refl, ap, sym, ◌∙◌}
+use mathlib.Core.Path.{◌≡◌}
 use Rattle.restructured_text.specs.Strings.{part}
 use Rattle.iterator.specs.Rows.{pairs_of, destinations_at}
 use Rattle.iterator.specs.Resolve.{lookup}
-use Rattle.iterator.proofs.LookupLaws.{row_same, row_other, row_within}
 use Rattle.iterator.proofs.resolve.destination_of.Given as goal
 
 abbrev pub invariant-loop-i : goal.invariant-loop-i

@@ -3,7 +3,6 @@
 use Prim.Native.Nat.{ℕ, ◌+◌}
 use mathlib.Core.Path.{ap}
 use native.Mathlib.Omega.{arith}
-use borrow.Author.Rules.{rules}
 use Rattle.iterator.specs.declared.resolve.Resolved.{Resolved}
 use Rattle.iterator.proofs.ReferenceLaws.{keep-fits, keep-size}
 use Rattle.iterator.proofs.resolve.keep.Goals as goal

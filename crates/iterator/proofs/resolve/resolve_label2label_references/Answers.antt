@@ -2,10 +2,8 @@
 -- gives, and the table of the links is as it was. The measure is how much of the walk is left.
 -- Assumes nothing.
 use native.Mathlib.Omega.{arith}
-use mathlib.Core.Path.{◌≡◌, refl, ◌∙◌}
-use lib.ListN.{length}
-use Rattle.iterator.specs.Inner.{steps_left}
-use Rattle.iterator.proofs.WalkLaws.{Walked, begun, wrapped-by, walked_on, ended}
+use mathlib.Core.Path.{refl, ◌∙◌}
+use Rattle.iterator.proofs.WalkLaws.{begun, wrapped-by, walked_on, ended}
 use Rattle.iterator.proofs.resolve.resolve_label2label_references.Goals as goal
 
 pub loop-v-init : goal.loop-v-init

@@ -1,11 +1,10 @@
 -- `resolve::resolve_label2label_references` meets its contract. The loop's invariant: the walk from here on gives what the whole walk
 -- gives, and the table of the links is as it was. The measure is how much of the walk is left.
 -- Assumes nothing.
-use native.Mathlib.Omega.{arith}
-use mathlib.Core.Path.{◌≡◌, refl, ◌∙◌}
+use mathlib.Core.Path.{◌≡◌}
 use lib.ListN.{length}
 use Rattle.iterator.specs.Inner.{steps_left}
-use Rattle.iterator.proofs.WalkLaws.{Walked, begun, wrapped-by, walked_on, ended}
+use Rattle.iterator.proofs.WalkLaws.{Walked}
 use Rattle.iterator.proofs.resolve.resolve_label2label_references.Given as goal
 
 abbrev pub invariant-loop-v : goal.invariant-loop-v

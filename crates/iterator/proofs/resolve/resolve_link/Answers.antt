@@ -3,7 +3,6 @@
 -- Assumes nothing.
 use mathlib.Core.Path.{ap, sym, ◌∙◌}
 use native.Mathlib.Omega.{arith}
-use borrow.Author.Rules.{rules}
 use Rattle.iterator.specs.Inner.{found_of}
 use Rattle.iterator.specs.declared.resolve.Lookup.{Lookup}
 use Rattle.iterator.proofs.ReferenceLaws.{can-look, keep-direct, keep-found, link-direct, link-found, link-dropped}

@@ -1,10 +1,9 @@
 -- `resolve::resolve_text2label_references` meets its contract. The loop's invariant, `References`: the links that are kept, and those ahead
 -- once they are resolved, are the links of the rows that were lent. The measure is how many rows are left.
 -- Assumes nothing.
-use Prim.Native.Nat.{◌-◌}
 use mathlib.Core.Path.{◌∙◌}
 use native.Mathlib.Omega.{arith}
-use Rattle.iterator.proofs.ReferenceLaws.{References, references-start, references-kept, references-done}
+use Rattle.iterator.proofs.ReferenceLaws.{references-start, references-kept, references-done}
 use Rattle.iterator.proofs.resolve.resolve_text2label_references.Goals as goal
 
 pub index_names-requires : goal.index_names-requires

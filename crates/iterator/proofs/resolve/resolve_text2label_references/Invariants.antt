@@ -2,9 +2,7 @@
 -- once they are resolved, are the links of the rows that were lent. The measure is how many rows are left.
 -- Assumes nothing.
 use Prim.Native.Nat.{◌-◌}
-use mathlib.Core.Path.{◌∙◌}
-use native.Mathlib.Omega.{arith}
-use Rattle.iterator.proofs.ReferenceLaws.{References, references-start, references-kept, references-done}
+use Rattle.iterator.proofs.ReferenceLaws.{References}
 use Rattle.iterator.proofs.resolve.resolve_text2label_references.Given as goal
 
 abbrev pub invariant-loop-i : goal.invariant-loop-i

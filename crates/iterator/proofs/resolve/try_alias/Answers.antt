@@ -1,7 +1,6 @@
 -- `resolve::try_alias` meets its contract: a hit and a miss are the laws `stored` and `passed`, of the row that was put.
 -- Assumes nothing.
 use native.Mathlib.Omega.{arith}
-use borrow.Author.Rules.{rules}
 use Rattle.iterator.proofs.TriedLaws.{tried-small, tried-lookable, stored-small, passed, stored}
 use Rattle.iterator.proofs.resolve.try_alias.Goals as goal
 

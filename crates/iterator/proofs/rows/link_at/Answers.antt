@@ -2,7 +2,6 @@
 -- Assumes nothing.
 use Prim.Native.Nat.{◌+◌}
 use native.Mathlib.Omega.{arith}
-use borrow.Author.Rules.{rules}
 use Rattle.iterator.proofs.RowsLaws.{link-read}
 use Rattle.iterator.proofs.rows.link_at.Goals as goal
 

@@ -2,7 +2,6 @@
 -- Assumes nothing.
 use Prim.Native.Nat.{◌+◌}
 use native.Mathlib.Omega.{arith}
-use borrow.Author.Rules.{rules}
 use Rattle.iterator.proofs.RowsLaws.{pair_read}
 use Rattle.iterator.proofs.rows.pair_at.Goals as goal
 

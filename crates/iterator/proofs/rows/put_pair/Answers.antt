@@ -2,7 +2,6 @@
 -- Assumes nothing.
 use native.Mathlib.Omega.{arith}
 use lib.ListN.{length-set}
-use borrow.Author.Rules.{rules}
 use Rattle.iterator.proofs.rows.put_pair.Goals as goal
 
 pub bounds-numbers-n-2 : goal.bounds-numbers-n-2
