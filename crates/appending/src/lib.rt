@@ -20,7 +20,7 @@ pub struct Both {
 // call; and where both documents are accepted and the second is the first, one line feed and a tail, the links of the first are kept.
 //
 // `document_of` is the document call's definition: what is returned, the output and both work areas, by what was lent. `verdict` is what a
-// call returned, with its output as it was left; `answer_of` adds both work areas. `.entry` is before the calls, `.exit` after them.
+// call returned, with its output as it was left; `answer_of` adds both work areas. `.old` is before the calls, `.new` after them.
 pub fn append_keeps(
     first: &[u8],
     second: &[u8],
@@ -32,8 +32,8 @@ pub fn append_keeps(
     bytes2: &mut [u8],
     output2: &mut [u8],
 ) -> Both
-    ensures bytes1_after { answer_of (verdict result.first output1.new) numbers1.new bytes1.new ≡ document_of first.now render numbers1.old bytes1.old output1.old }
-    ensures bytes2_after { answer_of (verdict result.second output2.new) numbers2.new bytes2.new ≡ document_of second.now render numbers2.old bytes2.old output2.old }
+    ensures first_call { answer_of (verdict result.first output1.new) numbers1.new bytes1.new ≡ document_of first.now render numbers1.old bytes1.old output1.old }
+    ensures second_call { answer_of (verdict result.second output2.new) numbers2.new bytes2.new ≡ document_of second.now render numbers2.old bytes2.old output2.old }
     ensures keeps { Keeps render first.now second.now (verdict result.first output1.new) (verdict result.second output2.new) }
 {
     let a = iterator::document(first, render, numbers1, bytes1, output1);

@@ -2,10 +2,9 @@
 -- Assumes nothing.
 use mathlib.Core.Path.{ap}
 use Rattle.appending.proofs.Theorem.{verdict_in, calls-keep}
-use borrow.Author.Rules.{rules}
 use Rattle.appending.proofs.append_keeps.Goals as goal
 
 pub returns : goal.returns
 returns c =
     let e = c.document-a.ensures in
-    let f = c.document-b.ensures in record { bytes1_after = e; bytes2_after = f; keeps = calls-keep _ _ _ _ _ _ _ _ _ _ _ (ap verdict_in e) (ap verdict_in f) }
+    let f = c.document-b.ensures in record { first_call = e; second_call = f; keeps = calls-keep _ _ _ _ _ _ _ _ _ _ _ (ap verdict_in e) (ap verdict_in f) }
