@@ -20,8 +20,8 @@
 --   Tag        starts_with         tag::tag               given bytes at the front
 --   Appending  free                free::free_front       so many bytes at the front that none is one of three; no equation
 --              Body, Tail                                 what the laws on appended text speak of
---   Copy                           copy::copy             bytes put at the front of others; its one clause says it whole
--- Inner is what the contracts of private functions speak of.
+-- Inner is what the contracts of private functions speak of. `copy::copy`, which puts bytes at the front of others that have room for them, cites no
+-- definition.
 --
 -- Laws, proved in the file of proofs/ that is named, for the layers above:
 --   within the input   DomainLaws char-within, char-at-within, run-within, outside-within; WordLaws word-within; TrimLaws

@@ -8,9 +8,6 @@ use Rattle.targetless.proofs.StateLaws.{pass-destination, pass-label, pass-quote
 use Rattle.targetless.proofs.SizeLaws.{sized-byte}
 use Rattle.targetless.proofs.runs.colon_state.Goals as goal
 
--- TODO add-t13 : tie.Need-overflow-add-t13
--- TODO add-t13 c = let a = c.before.before.before.before.before.before.before.before.before in omega (arith, a.requires.0.0, a.requires.1.0.6.0, length-drop (a.args.i + 1) a.args.s.now)
-
 pub target_at-target-requires : goal.target_at-target-requires
 target_at-target-requires c =
     let s = c.args.s.now in
