@@ -11,8 +11,7 @@ use mathlib.Core.Bool.{Bool, true, false}
 use lib.ListN.{length, take, drop, get_or, set, length-set, length-take}
 use lib.Seq.{take-suc, take-suc-set, take-length, length-take-le}
 use borrow.Author.Tests.{lt-ltb, le-ltb, eq-eqb, ne_eqb}
-use Rattle.io.specs.Counts.{IsPrefixLen}
-use Rattle.rstlinks.specs.Quote.{is_plain, hex_digit, shown_byte, shown_bytes, quoted}
+use Rattle.rstlinks.specs.Quote.{is_plain, hex_digit, shown_byte, shown_bytes, quoted, IsPrefixLen}
 
 -- Which bytes stand as they are.
 module _ (b : ℕ) where

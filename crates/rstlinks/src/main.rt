@@ -6,13 +6,16 @@ mod head;
 mod quote;
 mod show;
 
+use filling::read_full;
+use std::io;
+
 // One byte more than the longest document is read, so that a longer one is refused.
-fn main() {
+fn main(rt: HostRuntime) -> io::Result<()> {
     let mut document = [0u8; 16385];
-    let n = io::read_full(0, &mut document);
+    let n = read_full(&mut rt.stdin(), &mut document)?;
     let mut numbers = [0u32; 4096];
     let mut bytes = [0u8; 49152];
     let mut output = [0u8; 65536];
     let r = iterator::document(&document[..n], 0, &mut numbers, &mut bytes, &mut output);
-    show::outcome(r, &output);
+    show::outcome(&rt, r, &output)
 }

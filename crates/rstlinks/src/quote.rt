@@ -1,7 +1,6 @@
 // Strings in quotes: "bytes below 20, above 7E, `"` and backslash are a backslash and two uppercase hex digits".
 ghost use Rattle.std.specs.Prelude.{◌+◌, ◌*◌, ◌≤◌, ◌<◌, ◌≡◌, ◌++◌, length, take};
-ghost use Rattle.io.specs.Counts.{IsPrefixLen};
-ghost use Rattle.rstlinks.specs.Quote.{is_plain, hex_digit, shown_byte, quoted};
+ghost use Rattle.rstlinks.specs.Quote.{is_plain, hex_digit, shown_byte, quoted, IsPrefixLen};
 
 // Room for the longest string that a record holds, 32,767 bytes, in quotes.
 pub const LINE_LEN: usize = 98303;
