@@ -10,47 +10,41 @@ mod parsers;
 mod replay;
 mod single;
 
-ghost use Rattle.io.specs.Counts.{IsPrefixLen};
+ghost use Rattle.std.specs.Io.{ReadsAtMost};
+
+use filling::read_full;
+use std::rt::Files;
+use std::{fs, io};
 
 // Reads a file, as far as the buffer holds it, and says how many bytes that are.
-fn load(name: &[u8], buf: &mut [u8]) -> usize
-    ensures { IsPrefixLen result buf.new }
+fn load<R: Files>(rt: &R, name: &str, buf: &mut [u8]) -> io::Result<usize>
+    ensures { ReadsAtMost result buf.new }
 {
-    let fd = os::open_read(name);
-    if fd < 0 {
-        os::fail(name);
-        return 0;
-    }
-    let n = io::read_full(fd, buf);
-    libc::close(fd);
-    n
+    let mut file = fs::open(rt, name)?;
+    read_full(&mut file, buf)
 }
 
 // Writes how many answers of a file are recorded, and how many agree.
-fn say(name: &[u8], recorded: usize, right: usize) {
-    io::write_all(1, name);
-    io::write_all(1, b": ");
-    io::print_decimal(1, recorded as u64);
-    io::write_all(1, b" recorded, ");
-    io::print_decimal(1, right as u64);
-    io::write_all(1, b" agree\n");
+fn say(rt: &impl Print, name: &str, recorded: usize, right: usize) -> io::Result<()> {
+    println!(rt; "{name}: {recorded} recorded, {right} agree")
 }
 
 // The pieces' answers.
-fn replay_pieces(data: &mut [u8]) {
-    let n = load(b"pieces.bin", data);
-    say(b"pieces", number::four(data, 0), replay::replay(&data[..n]));
+fn replay_pieces<R: Files + Print>(rt: &R, data: &mut [u8]) -> io::Result<()> {
+    let n = load(rt, "pieces.bin", data)?;
+    say(rt, "pieces", number::four(data, 0), replay::replay(&data[..n]))
 }
 
 // The parsers' answers.
-fn replay_parsers(data: &mut [u8]) {
-    let n = load(b"parsers.bin", data);
+fn replay_parsers<R: Files + Print>(rt: &R, data: &mut [u8]) -> io::Result<()> {
+    let n = load(rt, "parsers.bin", data)?;
     let mut scratch = [0u8; 4096];
     say(
-        b"parsers",
+        rt,
+        "parsers",
         number::four(data, 0),
         parsers::replay(&data[..n], &mut scratch),
-    );
+    )
 }
 
 // The answers of both calls, over buffers and areas as long as any that is recorded.
@@ -71,21 +65,21 @@ fn both_calls(s: &[u8]) -> documents::Walk {
 }
 
 // How many of each there are, and how many agree.
-fn replay_calls(data: &mut [u8]) {
-    let n = load(b"documents.bin", data);
+fn replay_calls<R: Files + Print>(rt: &R, data: &mut [u8]) -> io::Result<()> {
+    let n = load(rt, "documents.bin", data)?;
     let walk = both_calls(&data[..n]);
-    say(b"single-link calls", walk.singles, walk.singles_right);
-    say(b"document calls", walk.documents, walk.documents_right);
+    say(rt, "single-link calls", walk.singles, walk.singles_right)?;
+    say(rt, "document calls", walk.documents, walk.documents_right)
 }
 
 // All of them, one file after the other.
-fn replay_all(data: &mut [u8]) {
-    replay_pieces(data);
-    replay_parsers(data);
-    replay_calls(data);
+fn replay_all<R: Files + Print>(rt: &R, data: &mut [u8]) -> io::Result<()> {
+    replay_pieces(rt, data)?;
+    replay_parsers(rt, data)?;
+    replay_calls(rt, data)
 }
 
-fn main() {
+fn main(rt: HostRuntime) -> io::Result<()> {
     let mut data = [0u8; 655360];
-    replay_all(&mut data);
+    replay_all(&rt, &mut data)
 }

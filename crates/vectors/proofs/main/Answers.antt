@@ -1,0 +1,10 @@
+-- `main` is safe and returns: the slice that is lent is as long as the array, of which it is all.
+-- Assumes nothing.
+use mathlib.Core.Path.{sym}
+use Prim.Native.Nat.{ℕ}
+use lib.ListN.{length-replicate}
+use borrow.Author.Rules.{rules}
+use Rattle.vectors.proofs.main.Goals as goal
+
+pub slice_bounds-replay_all-end : goal.slice_bounds-replay_all-end
+slice_bounds-replay_all-end c = sym (length-replicate {A = ℕ} 655360 0)
