@@ -124,8 +124,7 @@ fn line_piece(kind: usize, s: &[u8]) -> Answer {
 }
 
 // What the piece of this number answers; the parameter is a place for 2 and 13, and a stop set for 6.
-#[unsafe(no_mangle)]
-pub extern "C" fn rst_piece(kind: usize, parameter: usize, s: &[u8]) -> Answer {
+pub fn rst_piece(kind: usize, parameter: usize, s: &[u8]) -> Answer {
     if kind == 1 {
         return first_outside(s);
     }

@@ -145,8 +145,7 @@ fn raw(kind: usize, s: &[u8]) -> Parsed {
 }
 
 // What the parser of this number answers.
-#[unsafe(no_mangle)]
-pub extern "C" fn rst_parser(kind: usize, s: &[u8], scratch: &mut [u8]) -> Parsed {
+pub fn rst_parser(kind: usize, s: &[u8], scratch: &mut [u8]) -> Parsed {
     if kind < 9 {
         return raw(kind, s);
     }

@@ -70,8 +70,7 @@ fn link(x: Link) -> Taken
 }
 
 // The first link of the document from a place on.
-#[unsafe(no_mangle)]
-pub extern "C" fn rst_take_link(
+pub fn rst_take_link(
     document: &[u8],
     place: usize,
     first: &mut [u8],
@@ -86,8 +85,7 @@ pub extern "C" fn rst_take_link(
 }
 
 // All links of the document, resolved, as records.
-#[unsafe(no_mangle)]
-pub extern "C" fn rst_document(
+pub fn rst_document(
     document: &[u8],
     render: u32,
     numbers: &mut [u32],
