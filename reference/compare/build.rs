@@ -1,4 +1,4 @@
-//! Links the archives that `rt staticlib` wrote of `pieces` and `rstlinks_c`.
+//! Links the archives that `tools/build` wrote of `pieces` and `rstlinks_c`.
 
 use std::path::Path;
 

@@ -70,12 +70,7 @@ fn link(x: Link) -> Taken
 }
 
 // The first link of the document from a place on.
-pub fn rst_take_link(
-    document: &[u8],
-    place: usize,
-    first: &mut [u8],
-    second: &mut [u8],
-) -> Taken
+pub fn rst_take_link(document: &[u8], place: usize, first: &mut [u8], second: &mut [u8]) -> Taken
     ensures { taken result first.new second.new ≡ single_of document.now place first.old second.old }
 {
     match single_link(document, place, first, second) {

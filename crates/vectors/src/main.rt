@@ -32,7 +32,12 @@ fn say(rt: &impl Print, name: &str, recorded: usize, right: usize) -> io::Result
 // The pieces' answers.
 fn replay_pieces<R: Files + Print>(rt: &R, data: &mut [u8]) -> io::Result<()> {
     let n = load(rt, "pieces.bin", data)?;
-    say(rt, "pieces", number::four(data, 0), replay::replay(&data[..n]))
+    say(
+        rt,
+        "pieces",
+        number::four(data, 0),
+        replay::replay(&data[..n]),
+    )
 }
 
 // The parsers' answers.
