@@ -4,6 +4,11 @@
 
 pub mod parser;
 
+ghost use Rattle.std.specs.Prelude.{◌≡◌, length, take, drop};
+ghost use Rattle.rst_bytes.specs.Domain.{char_of, outside_of};
+ghost use Rattle.rst_bytes.specs.Trim.{trim_of};
+ghost use Rattle.pieces.specs.Numbered.{none, taken, of_part, of_outside, of_character, of_word, of_set, of_tag, line_piece_of, piece_of};
+
 use rst_bytes::{Character, Outside, Part};
 
 // An answer: whether there is one (1 or 0), its value, and the code point of a character.
@@ -15,7 +20,9 @@ pub struct Answer {
     pub point: usize,
 }
 
-fn taken(n: usize) -> Answer {
+fn taken(n: usize) -> Answer
+    ensures { result ≡ taken n }
+{
     Answer {
         accepted: 1,
         value: n,
@@ -23,7 +30,9 @@ fn taken(n: usize) -> Answer {
     }
 }
 
-fn none() -> Answer {
+fn none() -> Answer
+    ensures { result ≡ none }
+{
     Answer {
         accepted: 0,
         value: 0,
@@ -31,21 +40,27 @@ fn none() -> Answer {
     }
 }
 
-fn part(p: Part) -> Answer {
+fn part(p: Part) -> Answer
+    ensures { result ≡ of_part p }
+{
     match p {
         Part::Taken(n) => taken(n),
         Part::Refused => none(),
     }
 }
 
-fn first_outside(s: &[u8]) -> Answer {
+fn first_outside(s: &[u8]) -> Answer
+    ensures { result ≡ of_outside (outside_of s.now) }
+{
     match rst_bytes::domain::first_outside(s) {
         Outside::At(n) => taken(n),
         Outside::Nowhere => none(),
     }
 }
 
-fn char_at(s: &[u8], i: usize) -> Answer {
+fn char_at(s: &[u8], i: usize) -> Answer
+    ensures { result ≡ of_character (char_of (drop i s.now)) }
+{
     match rst_bytes::domain::char_at(s, i) {
         Character::Starts(len, point) => Answer {
             accepted: 1,
@@ -57,7 +72,9 @@ fn char_at(s: &[u8], i: usize) -> Answer {
 }
 
 // Whether the character at the front is a word character.
-fn is_word(s: &[u8]) -> Answer {
+fn is_word(s: &[u8]) -> Answer
+    ensures { result ≡ of_word (char_of s.now) }
+{
     match rst_bytes::domain::char_at(s, 0) {
         Character::Starts(_, point) => {
             if rst_bytes::word::is_word(point) {
@@ -70,13 +87,17 @@ fn is_word(s: &[u8]) -> Answer {
     }
 }
 
-fn trim_end(s: &[u8]) -> Answer {
+fn trim_end(s: &[u8]) -> Answer
+    ensures { result ≡ taken (length (take (trim_of s.now) s.now)) }
+{
     let t = rst_bytes::trim::trim_end(s);
     taken(t.len())
 }
 
 // `escaped` with a stop set by number: backtick, '<', '<' and '>', ':'.
-fn escaped(s: &[u8], set: usize) -> Answer {
+fn escaped(s: &[u8], set: usize) -> Answer
+    ensures { result ≡ of_set set s.now }
+{
     if set == 0 {
         return part(rst_bytes::escaped::escaped(s, b'`', b'`'));
     }
@@ -90,7 +111,9 @@ fn escaped(s: &[u8], set: usize) -> Answer {
 }
 
 // `tag`: whether the bytes behind the place begin with those before it.
-fn tag(s: &[u8], place: usize) -> Answer {
+fn tag(s: &[u8], place: usize) -> Answer
+    ensures { result ≡ of_tag place s.now }
+{
     if s.len() < place {
         return none();
     }
@@ -101,7 +124,9 @@ fn tag(s: &[u8], place: usize) -> Answer {
     }
 }
 
-fn line_piece(kind: usize, s: &[u8]) -> Answer {
+fn line_piece(kind: usize, s: &[u8]) -> Answer
+    ensures { result ≡ line_piece_of kind s.now }
+{
     if kind == 7 {
         return part(rst_bytes::line::newline(s));
     }
@@ -124,7 +149,9 @@ fn line_piece(kind: usize, s: &[u8]) -> Answer {
 }
 
 // What the piece of this number answers; the parameter is a place for 2 and 13, and a stop set for 6.
-pub fn rst_piece(kind: usize, parameter: usize, s: &[u8]) -> Answer {
+pub fn rst_piece(kind: usize, parameter: usize, s: &[u8]) -> Answer
+    ensures { result ≡ piece_of kind parameter s.now }
+{
     if kind == 1 {
         return first_outside(s);
     }

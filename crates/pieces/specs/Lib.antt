@@ -1,0 +1,2 @@
+-- What the pieces and parsers, by number, answer in numbers: each is the definition of its layer.
+pub mod Numbered
