@@ -2,6 +2,11 @@
 //
 // 1 to 8 give raw parts, which stand in the input; 9 to 17 give strings, which stand in the scratch. What a parser gives one of
 // is the first, and the second is then empty.
+ghost use Rattle.std.specs.Prelude.{◌≡◌, ◌<◌, ◌≤◌, ℕ, List};
+ghost use Rattle.restructured_text.specs.Strings.{strings_of, lent};
+ghost use Rattle.restructured_text.specs.Block.{block_in, lent_block};
+ghost use Rattle.pieces.specs.Parsers.{without, one, of_spans, of_label, raw_of, block_said, strings_said, block_at, form_at};
+
 use restructured_text::block::{Block, rst_explicit_markup_block};
 use restructured_text::inline::{rst_text_label2dest, rst_text2dest, rst_text2label};
 use restructured_text::label::{SimpleLabel, rst_parse_simple_label, rst_parse_text2label};
@@ -26,7 +31,9 @@ pub struct Parsed {
 }
 
 // An answer without strings.
-fn without(accepted: usize) -> Parsed {
+fn without(accepted: usize) -> Parsed
+    ensures { result ≡ without accepted }
+{
     Parsed {
         accepted,
         first: 0,
@@ -38,7 +45,9 @@ fn without(accepted: usize) -> Parsed {
 }
 
 // One part or string.
-fn one(start: usize, len: usize, n: usize) -> Parsed {
+fn one(start: usize, len: usize, n: usize) -> Parsed
+    ensures { result ≡ one start len n }
+{
     Parsed {
         accepted: 1,
         first: start,
@@ -49,7 +58,9 @@ fn one(start: usize, len: usize, n: usize) -> Parsed {
     }
 }
 
-fn spans(p: Spans) -> Parsed {
+fn spans(p: Spans) -> Parsed
+    ensures { result ≡ of_spans p }
+{
     match p {
         Spans::Parsed(a, b, n) => Parsed {
             accepted: 1,
@@ -63,14 +74,18 @@ fn spans(p: Spans) -> Parsed {
     }
 }
 
-fn simple_label(p: SimpleLabel) -> Parsed {
+fn simple_label(p: SimpleLabel) -> Parsed
+    ensures { result ≡ of_label p }
+{
     match p {
         SimpleLabel::Named(label, n) => one(label.start, label.len, n),
         SimpleLabel::NoLabel => without(0),
     }
 }
 
-fn strings(p: Strings) -> Parsed {
+fn strings(p: Strings) -> Parsed
+    ensures { (scratch : List ℕ) → strings_said result scratch ≡ strings_of p scratch }
+{
     match p {
         Strings::Found(a, b, n) => Parsed {
             accepted: 1,
@@ -85,7 +100,9 @@ fn strings(p: Strings) -> Parsed {
     }
 }
 
-fn block(p: Block) -> Parsed {
+fn block(p: Block) -> Parsed
+    ensures { (scratch : List ℕ) → block_said result scratch ≡ block_in p scratch }
+{
     match p {
         Block::Joined(len, n) => one(0, len, n),
         Block::NoBlock => without(0),
@@ -116,7 +133,9 @@ fn transform(s: &[u8], scratch: &mut [u8], destination: bool) -> Parsed {
 }
 
 // The parsers that give raw parts.
-fn raw(kind: usize, s: &[u8]) -> Parsed {
+fn raw(kind: usize, s: &[u8]) -> Parsed
+    ensures { result ≡ raw_of kind s.now }
+{
     if kind == 1 {
         return spans(rst_parse_text2target(s, false, false));
     }
@@ -145,7 +164,11 @@ fn raw(kind: usize, s: &[u8]) -> Parsed {
 }
 
 // What the parser of this number answers.
-pub fn rst_parser(kind: usize, s: &[u8], scratch: &mut [u8]) -> Parsed {
+pub fn rst_parser(kind: usize, s: &[u8], scratch: &mut [u8]) -> Parsed
+    ensures raw { kind < 9 → result ≡ raw_of kind s.now }
+    ensures block { 11 ≤ kind → kind ≤ 12 → block_said result scratch.new ≡ lent_block s.now scratch.old (block_at kind s.now) }
+    ensures strings { 13 ≤ kind → kind ≤ 17 → strings_said result scratch.new ≡ lent s.now scratch.old (form_at kind s.now) }
+{
     if kind < 9 {
         return raw(kind, s);
     }
