@@ -1,12 +1,12 @@
-//! Compiles the plain pass as `rt staticlib` compiles a library: by the clang of
+//! Compiles the plain pass as `rt lib` compiles a library: by the clang of
 //! the kit that `rt` belongs to, with its flags. Where there is no kit, by the
 //! clang or the gcc at hand.
 
 use std::path::{Path, PathBuf};
 use std::process::Command;
 
-/// As `rt staticlib` calls its clang, but for words that say where things are,
-/// that the source is IR, and what it may do with functions that are alike.
+/// As `rt lib --cpu x86-64` calls its clang, but for words that say where things
+/// are, that the source is IR, and which passes are off.
 const FLAGS: [&str; 5] = [
     "-march=x86-64",
     "-ffunction-sections",
@@ -19,7 +19,7 @@ const FLAGS: [&str; 5] = [
 fn of_kit() -> Option<PathBuf> {
     let paths = std::env::var_os("PATH")?;
     let rt = std::env::split_paths(&paths).find_map(|at| at.join("rt").canonicalize().ok())?;
-    let clang = rt.parent()?.join("../on/x86_64/toolchain/bin/clang");
+    let clang = rt.parent()?.join("../toolchain/bin/clang");
     clang.canonicalize().ok()
 }
 
