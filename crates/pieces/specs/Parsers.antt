@@ -1,6 +1,6 @@
 -- The parsers of `restructured_text` by number, and what their answers in numbers say: the definitions that its functions promise.
 -- Assumes nothing.
-use Rattle.std.specs.Prelude.{ℕ, List, [], ◌∷◌, Bool, true, false, eqb, take, drop}
+use Rattle.std.specs.Prelude.{ℕ, List, [], ◌∷◌, true, false, eqb, take, drop}
 use Rattle.restructured_text.specs.declared.Spans.{Spans}
 use Rattle.restructured_text.specs.declared.Spans.TheVariants.{Parsed, Nothing}
 use Rattle.restructured_text.specs.declared.label.SimpleLabel.{SimpleLabel}

@@ -1,7 +1,6 @@
 -- `link` meets its contract, case by case.
 -- Assumes nothing.
 use mathlib.Core.Path.{sym, ap, subst, ◌∙◌}
-use borrow.Author.Rules.{rules}
 use Rattle.rstlinks_c.specs.Taken.{LinkShort, link_taken}
 use Rattle.rstlinks_c.proofs.link.Goals as goal
 

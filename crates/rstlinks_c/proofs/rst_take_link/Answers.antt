@@ -1,6 +1,5 @@
 -- `rst_take_link` meets its contract: it is that of `single_link`, whose lengths 32 bits hold.
 -- Assumes nothing.
-use borrow.Author.Rules.{rules}
 use Rattle.rstlinks_c.proofs.TakenLaws.{link-short, link-answered, refused-short, refused-answered}
 use Rattle.rstlinks_c.proofs.rst_take_link.Goals as goal
 

@@ -3,7 +3,6 @@
 use mathlib.Core.Path.{sym}
 use Prim.Native.Nat.{ℕ}
 use lib.ListN.{length-replicate}
-use borrow.Author.Rules.{rules}
 use Rattle.vectors.proofs.main.Goals as goal
 
 pub slice_bounds-replay_all-end : goal.slice_bounds-replay_all-end

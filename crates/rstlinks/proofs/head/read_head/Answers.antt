@@ -1,6 +1,5 @@
 -- `head::read_head` meets its contract: the fields of the number of eight bytes, which has 64 bits.
 -- Assumes nothing.
-use borrow.Author.Rules.{rules}
 use mathlib.Core.Path.{ap}
 use native.Mathlib.Omega.{arith}
 use Rattle.rstlinks.specs.Head.{fields_of}

@@ -1,6 +1,5 @@
 -- `quote::hex_digit` meets its contract, by its test.
 -- Assumes nothing.
-use borrow.Author.Rules.{rules}
 use Rattle.rstlinks.proofs.QuoteLaws.{digit_low, digit-high}
 use Rattle.rstlinks.proofs.quote.hex_digit.Goals as goal
 

@@ -1,6 +1,5 @@
 -- `quote::put` meets its contract: one byte or three are written, and what stands before them is as it was.
 -- Assumes nothing.
-use borrow.Author.Rules.{rules}
 use mathlib.Core.Path.{sym, ◌∙◌}
 use native.Mathlib.Omega.{arith}
 use Rattle.rstlinks.proofs.QuoteLaws.{put-plain, put-escaped, second-room, third-room}

@@ -1,11 +1,9 @@
 -- `show::links` is safe: a record that does not end within the records is not read, so places stay below 2 to the power of 32, and the
 -- line has room for every string.
 -- Assumes nothing.
-use Prim.Native.Nat.{◌+◌, ◌-◌, ◌*◌, ◌≤◌}
+use Prim.Native.Nat.{◌+◌}
 use mathlib.Core.Path.{sym, ◌∙◌}
 use native.Mathlib.Omega.{arith}
-use lib.ListN.{length}
-use borrow.Author.Rules.{rules}
 use Rattle.rstlinks.proofs.QuoteLaws.{string-room}
 use Rattle.rstlinks.proofs.show.links.Goals as goal
 

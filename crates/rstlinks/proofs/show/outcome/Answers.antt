@@ -1,6 +1,5 @@
 -- `show::outcome` is safe: as many bytes are read as the output has at the most.
 -- Assumes nothing.
-use borrow.Author.Rules.{rules}
 use mathlib.Core.Path.{sym}
 use native.Mathlib.Omega.{arith}
 use lib.Seq.{length-take-le}

@@ -1,7 +1,6 @@
 -- `all_bytes` is safe and ends. The loop's invariant: no more places were looked at than there are.
 -- Assumes nothing.
 use Prim.Native.Nat.{◌≤◌, ◌-◌}
-use borrow.Author.Rules.{rules}
 use lib.ListN.{length}
 use Rattle.vectors.proofs.areas.all_bytes.Given as goal
 

@@ -1,10 +1,7 @@
 -- `fill_numbers` is safe and ends. The loop's invariant: the area has its length, and no more places were passed.
 -- Assumes nothing.
-use Prim.Native.Nat.{◌≤◌, ◌-◌}
-use mathlib.Core.Path.{◌≡◌}
 use native.Mathlib.Omega.{arith}
-use borrow.Author.Rules.{rules}
-use lib.ListN.{length, length-set}
+use lib.ListN.{length-set}
 use Rattle.vectors.proofs.areas.fill_numbers.Goals as goal
 
 pub loop-i-smaller : goal.loop-i-smaller

@@ -1,10 +1,7 @@
 -- `replay` is safe and ends: each step leaves the place where it is, and then the loop ends, or goes on in the file. The loop's
 -- invariant: the buffers and areas have their lengths.
 -- Assumes nothing.
-use Prim.Native.Nat.{ℕ, ◌-◌}
-use mathlib.Core.Path.{◌≡◌}
 use borrow.Author.Rules.{rules}
-use lib.ListN.{length}
 use Rattle.vectors.proofs.documents.replay.Goals as goal
 
 pub loop-walk-init : goal.loop-walk-init

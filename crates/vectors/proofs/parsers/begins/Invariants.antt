@@ -1,7 +1,6 @@
 -- `begins` is safe and ends. The loop's invariant: no more bytes were looked at than t has.
 -- Assumes nothing.
 use Prim.Native.Nat.{◌≤◌, ◌-◌}
-use borrow.Author.Rules.{rules}
 use lib.ListN.{length}
 use Rattle.vectors.proofs.parsers.begins.Given as goal
 

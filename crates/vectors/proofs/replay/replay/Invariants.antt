@@ -1,9 +1,6 @@
 -- `replay` is safe and ends. The loop's invariant: no more records agree than bytes were passed.
 -- Assumes nothing.
 use Prim.Native.Nat.{◌≤◌, ◌-◌}
-use mathlib.Core.Logic.{⊎_elim}
-use native.Mathlib.Omega.{arith}
-use borrow.Author.Rules.{rules}
 use lib.ListN.{length}
 use Rattle.vectors.proofs.replay.replay.Given as goal
 
