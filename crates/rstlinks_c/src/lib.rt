@@ -1,4 +1,4 @@
-// The two public calls for C, as include/rstlinks.h says them.
+// The two public calls for C, as include/rstlinks.h says them; `rstlinks_c_c` exports them.
 //
 // Each hands on what `iterator::document` and `parse::single_link` answer, and promises the same equation.
 #![tactic(auto)]
