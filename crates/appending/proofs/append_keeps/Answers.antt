@@ -7,4 +7,9 @@ use Rattle.appending.proofs.append_keeps.Goals as goal
 pub returns : goal.returns
 returns c =
     let e = c.document-a.ensures in
-    let f = c.document-b.ensures in record { first_call = e; second_call = f; keeps = calls-keep _ _ _ _ _ _ _ _ _ _ _ (ap verdict_in e) (ap verdict_in f) }
+    let f = c.document-b.ensures in
+    record {
+      first_call = e;
+      second_call = f;
+      keeps = calls-keep _ _ _ _ _ _ _ _ _ _ _ (ap verdict_in e) (ap verdict_in f);
+    }

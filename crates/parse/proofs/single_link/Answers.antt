@@ -10,10 +10,18 @@ use Rattle.parse.proofs.SingleLaws.{place-le, single-long, single-outside, singl
 use Rattle.parse.proofs.single_link.Goals as goal
 
 pub returns-then-document-gt-DOCUMENT_LEN_MAX : goal.returns-then-document-gt-DOCUMENT_LEN_MAX
-returns-then-document-gt-DOCUMENT_LEN_MAX c = record { outcome = single-long _ _ _ _ c.if-document-gt-DOCUMENT_LEN_MAX.true; fronts = tt }
+returns-then-document-gt-DOCUMENT_LEN_MAX c =
+    record {
+      outcome = single-long _ _ _ _ c.if-document-gt-DOCUMENT_LEN_MAX.true;
+      fronts = tt;
+    }
 
 pub returns-in-At : goal.returns-in-At
-returns-in-At c = record { outcome = single-outside _ _ _ _ c.if-document-gt-DOCUMENT_LEN_MAX.false _ (sym c.first_outside.ensures ∙ c.in-At.is); fronts = tt }
+returns-in-At c =
+    record {
+      outcome = single-outside _ _ _ _ c.if-document-gt-DOCUMENT_LEN_MAX.false _ (sym c.first_outside.ensures ∙ c.in-At.is);
+      fronts = tt;
+    }
 
 pub slice_bounds-take_link-count : goal.slice_bounds-take_link-count
 slice_bounds-take_link-count c = place-le _ _ (sym c.if-is_place.true ∙ c.is_place.ensures)
@@ -30,17 +38,33 @@ hand_over-requires c =
 pub returns-in-Found : goal.returns-in-Found
 returns-in-Found c =
     let w = c.args in
-    let e = scan-answered w.document.now w.place document_len_max _ _ _ c.if-document-gt-DOCUMENT_LEN_MAX.false c.take_link.ensures.scan c.in-Found.is in record { outcome = single-scanned _ _ _ _ c.if-document-gt-DOCUMENT_LEN_MAX.false _ _ (sym c.first_outside.ensures ∙ c.in-Nowhere.is) (sym c.is_place.ensures ∙ c.if-is_place.true) e c.hand_over.ensures.outcome; fronts = c.hand_over.ensures.fronts }
+    let e = scan-answered w.document.now w.place document_len_max _ _ _ c.if-document-gt-DOCUMENT_LEN_MAX.false c.take_link.ensures.scan c.in-Found.is in
+    record {
+      outcome = single-scanned _ _ _ _ c.if-document-gt-DOCUMENT_LEN_MAX.false _ _ (sym c.first_outside.ensures ∙ c.in-Nowhere.is) (sym c.is_place.ensures ∙ c.if-is_place.true) e c.hand_over.ensures.outcome;
+      fronts = c.hand_over.ensures.fronts;
+    }
 
 pub returns-in-NotFound : goal.returns-in-NotFound
 returns-in-NotFound c =
     let w = c.args in
-    let e = scan-answered w.document.now w.place document_len_max _ _ _ c.if-document-gt-DOCUMENT_LEN_MAX.false c.take_link.ensures.scan c.in-NotFound.is in record { outcome = single-scanned _ _ _ _ c.if-document-gt-DOCUMENT_LEN_MAX.false _ _ (sym c.first_outside.ensures ∙ c.in-Nowhere.is) (sym c.is_place.ensures ∙ c.if-is_place.true) e refl; fronts = tt }
+    let e = scan-answered w.document.now w.place document_len_max _ _ _ c.if-document-gt-DOCUMENT_LEN_MAX.false c.take_link.ensures.scan c.in-NotFound.is in
+    record {
+      outcome = single-scanned _ _ _ _ c.if-document-gt-DOCUMENT_LEN_MAX.false _ _ (sym c.first_outside.ensures ∙ c.in-Nowhere.is) (sym c.is_place.ensures ∙ c.if-is_place.true) e refl;
+      fronts = tt;
+    }
 
 pub returns-in-NoRoom : goal.returns-in-NoRoom
 returns-in-NoRoom c =
     let w = c.args in
-    let e = scan-answered w.document.now w.place document_len_max _ _ _ c.if-document-gt-DOCUMENT_LEN_MAX.false c.take_link.ensures.scan c.in-NoRoom.is in record { outcome = single-scanned _ _ _ _ c.if-document-gt-DOCUMENT_LEN_MAX.false _ _ (sym c.first_outside.ensures ∙ c.in-Nowhere.is) (sym c.is_place.ensures ∙ c.if-is_place.true) e refl; fronts = tt }
+    let e = scan-answered w.document.now w.place document_len_max _ _ _ c.if-document-gt-DOCUMENT_LEN_MAX.false c.take_link.ensures.scan c.in-NoRoom.is in
+    record {
+      outcome = single-scanned _ _ _ _ c.if-document-gt-DOCUMENT_LEN_MAX.false _ _ (sym c.first_outside.ensures ∙ c.in-Nowhere.is) (sym c.is_place.ensures ∙ c.if-is_place.true) e refl;
+      fronts = tt;
+    }
 
 pub returns-else-is_place : goal.returns-else-is_place
-returns-else-is_place c = record { outcome = single-unplaced _ _ _ _ c.if-document-gt-DOCUMENT_LEN_MAX.false (sym c.first_outside.ensures ∙ c.in-Nowhere.is) (sym c.is_place.ensures ∙ c.if-is_place.false); fronts = tt }
+returns-else-is_place c =
+    record {
+      outcome = single-unplaced _ _ _ _ c.if-document-gt-DOCUMENT_LEN_MAX.false (sym c.first_outside.ensures ∙ c.in-Nowhere.is) (sym c.is_place.ensures ∙ c.if-is_place.false);
+      fronts = tt;
+    }

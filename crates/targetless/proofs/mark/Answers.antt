@@ -26,10 +26,19 @@ pub overflow_sub-e : goal.overflow_sub-e
 overflow_sub-e c = omega arith
 
 pub stepped-next-requires : goal.stepped-next-requires
-stepped-next-requires c = record { here = omega arith; walked = walked_next _ _ _ c.loop-i-test.true c.loop-i.invariant.2 }
+stepped-next-requires c =
+    record {
+      here = omega arith;
+      walked = walked_next _ _ _ c.loop-i-test.true c.loop-i.invariant.2;
+    }
 
 pub free_at-k-requires : goal.free_at-k-requires
-free_at-k-requires c = record { place = omega arith; behind = walked_next _ _ _ c.loop-i-test.true c.loop-i.invariant.2; here = c.stepped-next.ensures }
+free_at-k-requires c =
+    record {
+      place = omega arith;
+      behind = walked_next _ _ _ c.loop-i-test.true c.loop-i.invariant.2;
+      here = c.stepped-next.ensures;
+    }
 
 pub bounds-marks-k : goal.bounds-marks-k
 bounds-marks-k c = omega (arith, c.if-k-s.true, c.loop-i.invariant.3)

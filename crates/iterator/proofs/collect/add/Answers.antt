@@ -53,16 +53,41 @@ pub add_label2label-requires : goal.add_label2label-requires
 add_label2label-requires c = let w = c.args in let g = c.in-Label2Label in addable w.numbers.now w.bytes.now w.c w.x label2label g.a g.b g.m g.n g.is c.requires c.row_of-in-Label2Label.result c.read_to-in-Label2Label.result c.row_of-in-Label2Label.ensures c.read_to-in-Label2Label.ensures
 
 pub returns-in-Text2Dest : goal.returns-in-Text2Dest
-returns-in-Text2Dest c = let w = c.args in let g = c.in-Text2Dest in record { step = text2dest-adds w.numbers.now w.bytes.now w.c w.x g.a g.b g.m g.n g.is c.requires c.row_of.result c.read_to.result c.row_of.ensures c.read_to.ensures c.add_link.new.numbers c.add_link.result c.add_link.ensures.step c.add_link.ensures.row w.render; held = text2dest-held w.numbers.now w.bytes.now w.c w.x g.a g.b g.m g.n g.is c.requires c.row_of.result c.read_to.result c.row_of.ensures c.read_to.ensures c.add_link.new.numbers c.add_link.result c.add_link.ensures.step c.add_link.ensures.row }
+returns-in-Text2Dest c =
+    let w = c.args in let g = c.in-Text2Dest in
+    record {
+      step = text2dest-adds w.numbers.now w.bytes.now w.c w.x g.a g.b g.m g.n g.is c.requires c.row_of.result c.read_to.result c.row_of.ensures c.read_to.ensures c.add_link.new.numbers c.add_link.result c.add_link.ensures.step c.add_link.ensures.row w.render;
+      held = text2dest-held w.numbers.now w.bytes.now w.c w.x g.a g.b g.m g.n g.is c.requires c.row_of.result c.read_to.result c.row_of.ensures c.read_to.ensures c.add_link.new.numbers c.add_link.result c.add_link.ensures.step c.add_link.ensures.row;
+    }
 
 pub returns-in-TextLabel2Dest : goal.returns-in-TextLabel2Dest
-returns-in-TextLabel2Dest c = let w = c.args in let g = c.in-TextLabel2Dest in record { step = text-label2dest-adds w.numbers.now w.bytes.now w.c w.x g.a g.b g.m g.n g.is c.requires c.row_of-row.result c.read_to-in-TextLabel2Dest.result c.row_of-row.ensures c.read_to-in-TextLabel2Dest.ensures c.add_both.new.numbers c.add_both.result c.add_both.ensures.step c.add_both.ensures.rows w.render; held = text-label2dest-held w.numbers.now w.bytes.now w.c w.x g.a g.b g.m g.n g.is c.requires c.row_of-row.result c.read_to-in-TextLabel2Dest.result c.row_of-row.ensures c.read_to-in-TextLabel2Dest.ensures c.add_both.new.numbers c.add_both.result c.add_both.ensures.step c.add_both.ensures.rows }
+returns-in-TextLabel2Dest c =
+    let w = c.args in let g = c.in-TextLabel2Dest in
+    record {
+      step = text-label2dest-adds w.numbers.now w.bytes.now w.c w.x g.a g.b g.m g.n g.is c.requires c.row_of-row.result c.read_to-in-TextLabel2Dest.result c.row_of-row.ensures c.read_to-in-TextLabel2Dest.ensures c.add_both.new.numbers c.add_both.result c.add_both.ensures.step c.add_both.ensures.rows w.render;
+      held = text-label2dest-held w.numbers.now w.bytes.now w.c w.x g.a g.b g.m g.n g.is c.requires c.row_of-row.result c.read_to-in-TextLabel2Dest.result c.row_of-row.ensures c.read_to-in-TextLabel2Dest.ensures c.add_both.new.numbers c.add_both.result c.add_both.ensures.step c.add_both.ensures.rows;
+    }
 
 pub returns-in-Text2Label : goal.returns-in-Text2Label
-returns-in-Text2Label c = let w = c.args in let g = c.in-Text2Label in record { step = λ (s : List ℕ). c.add_text2label.ensures.step s ∙ adds-scanned w.numbers.now w.bytes.now w.c w.x text2label g.a g.b g.m g.n g.is c.requires c.row_of-in-Text2Label.result c.read_to-in-Text2Label.result c.row_of-in-Text2Label.ensures c.read_to-in-Text2Label.ensures w.render s; held = held_at w.numbers.now w.bytes.now w.c w.x text2label g.a g.b g.m g.n g.is c.requires c.row_of-in-Text2Label.result c.read_to-in-Text2Label.result c.row_of-in-Text2Label.ensures c.read_to-in-Text2Label.ensures c.add_text2label.new.numbers c.add_text2label.result c.add_text2label.ensures.held }
+returns-in-Text2Label c =
+    let w = c.args in let g = c.in-Text2Label in
+    record {
+      step = λ (s : List ℕ). c.add_text2label.ensures.step s ∙ adds-scanned w.numbers.now w.bytes.now w.c w.x text2label g.a g.b g.m g.n g.is c.requires c.row_of-in-Text2Label.result c.read_to-in-Text2Label.result c.row_of-in-Text2Label.ensures c.read_to-in-Text2Label.ensures w.render s;
+      held = held_at w.numbers.now w.bytes.now w.c w.x text2label g.a g.b g.m g.n g.is c.requires c.row_of-in-Text2Label.result c.read_to-in-Text2Label.result c.row_of-in-Text2Label.ensures c.read_to-in-Text2Label.ensures c.add_text2label.new.numbers c.add_text2label.result c.add_text2label.ensures.held;
+    }
 
 pub returns-in-Label2Dest : goal.returns-in-Label2Dest
-returns-in-Label2Dest c = let w = c.args in let g = c.in-Label2Dest in record { step = λ (s : List ℕ). c.add_label2dest.ensures.step s ∙ adds-scanned w.numbers.now w.bytes.now w.c w.x label2dest g.a g.b g.m g.n g.is c.requires c.row_of-in-Label2Dest.result c.read_to-in-Label2Dest.result c.row_of-in-Label2Dest.ensures c.read_to-in-Label2Dest.ensures w.render s; held = held_at w.numbers.now w.bytes.now w.c w.x label2dest g.a g.b g.m g.n g.is c.requires c.row_of-in-Label2Dest.result c.read_to-in-Label2Dest.result c.row_of-in-Label2Dest.ensures c.read_to-in-Label2Dest.ensures c.add_label2dest.new.numbers c.add_label2dest.result c.add_label2dest.ensures.held }
+returns-in-Label2Dest c =
+    let w = c.args in let g = c.in-Label2Dest in
+    record {
+      step = λ (s : List ℕ). c.add_label2dest.ensures.step s ∙ adds-scanned w.numbers.now w.bytes.now w.c w.x label2dest g.a g.b g.m g.n g.is c.requires c.row_of-in-Label2Dest.result c.read_to-in-Label2Dest.result c.row_of-in-Label2Dest.ensures c.read_to-in-Label2Dest.ensures w.render s;
+      held = held_at w.numbers.now w.bytes.now w.c w.x label2dest g.a g.b g.m g.n g.is c.requires c.row_of-in-Label2Dest.result c.read_to-in-Label2Dest.result c.row_of-in-Label2Dest.ensures c.read_to-in-Label2Dest.ensures c.add_label2dest.new.numbers c.add_label2dest.result c.add_label2dest.ensures.held;
+    }
 
 pub returns-in-Label2Label : goal.returns-in-Label2Label
-returns-in-Label2Label c = let w = c.args in let g = c.in-Label2Label in record { step = λ (s : List ℕ). c.add_label2label.ensures.step s ∙ adds-scanned w.numbers.now w.bytes.now w.c w.x label2label g.a g.b g.m g.n g.is c.requires c.row_of-in-Label2Label.result c.read_to-in-Label2Label.result c.row_of-in-Label2Label.ensures c.read_to-in-Label2Label.ensures w.render s; held = held_at w.numbers.now w.bytes.now w.c w.x label2label g.a g.b g.m g.n g.is c.requires c.row_of-in-Label2Label.result c.read_to-in-Label2Label.result c.row_of-in-Label2Label.ensures c.read_to-in-Label2Label.ensures c.add_label2label.new.numbers c.add_label2label.result c.add_label2label.ensures.held }
+returns-in-Label2Label c =
+    let w = c.args in let g = c.in-Label2Label in
+    record {
+      step = λ (s : List ℕ). c.add_label2label.ensures.step s ∙ adds-scanned w.numbers.now w.bytes.now w.c w.x label2label g.a g.b g.m g.n g.is c.requires c.row_of-in-Label2Label.result c.read_to-in-Label2Label.result c.row_of-in-Label2Label.ensures c.read_to-in-Label2Label.ensures w.render s;
+      held = held_at w.numbers.now w.bytes.now w.c w.x label2label g.a g.b g.m g.n g.is c.requires c.row_of-in-Label2Label.result c.read_to-in-Label2Label.result c.row_of-in-Label2Label.ensures c.read_to-in-Label2Label.ensures c.add_label2label.new.numbers c.add_label2label.result c.add_label2label.ensures.held;
+    }

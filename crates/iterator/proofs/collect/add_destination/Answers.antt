@@ -9,7 +9,17 @@ use mathlib.Core.Path.{sym, ◌∙◌}
 use Rattle.iterator.proofs.collect.add_destination.Goals as goal
 
 pub returns-then-c-lt-ROWS_MAX : goal.returns-then-c-lt-ROWS_MAX
-returns-then-c-lt-ROWS_MAX c = let w = c.args in record { step = sym (room-some (names w.c) (Next (one_destination w.c)) (Refused 6) c.if-c-lt-ROWS_MAX.true); row = c.put_pair.ensures ∙ sym (room-some (names w.c) (put_pair w.numbers.now (destinations_at + 4 * w.c.label2dest) w.x) w.numbers.now c.if-c-lt-ROWS_MAX.true) }
+returns-then-c-lt-ROWS_MAX c =
+    let w = c.args in
+    record {
+      step = sym (room-some (names w.c) (Next (one_destination w.c)) (Refused 6) c.if-c-lt-ROWS_MAX.true);
+      row = c.put_pair.ensures ∙ sym (room-some (names w.c) (put_pair w.numbers.now (destinations_at + 4 * w.c.label2dest) w.x) w.numbers.now c.if-c-lt-ROWS_MAX.true);
+    }
 
 pub returns : goal.returns
-returns c = let w = c.args in record { step = sym (room-none (names w.c) (Next (one_destination w.c)) (Refused 6) c.if-c-lt-ROWS_MAX.false); row = sym (room-none (names w.c) (put_pair w.numbers.now (destinations_at + 4 * w.c.label2dest) w.x) w.numbers.now c.if-c-lt-ROWS_MAX.false) }
+returns c =
+    let w = c.args in
+    record {
+      step = sym (room-none (names w.c) (Next (one_destination w.c)) (Refused 6) c.if-c-lt-ROWS_MAX.false);
+      row = sym (room-none (names w.c) (put_pair w.numbers.now (destinations_at + 4 * w.c.label2dest) w.x) w.numbers.now c.if-c-lt-ROWS_MAX.false);
+    }

@@ -100,13 +100,21 @@ pub returns-in-Refused : goal.returns-in-Refused
 returns-in-Refused c =
     let l = c.loop-c in
     let s = c.args.document.now in
-    let q : Roomy l.numbers l.bytes = (omega (arith, l.invariant.0, c.requires.1.0), omega (arith, l.invariant.1, c.requires.1.0)) in record { step = refused-goes s l.numbers l.bytes l.c l.invariant.2 l.invariant.3 c.requires.0 q c.next_link-scanned.result.scan c.next_link-scanned.new.scratch c.next_link-scanned.ensures.scan _ c.in-Found.is c.args.render c.add.new.numbers c.add.new.bytes c.add.result c.add.ensures.step c.add.ensures.held _ c.in-Refused.is ∙ sym l.invariant.4; held = tt }
+    let q : Roomy l.numbers l.bytes = (omega (arith, l.invariant.0, c.requires.1.0), omega (arith, l.invariant.1, c.requires.1.0)) in
+    record {
+      step = refused-goes s l.numbers l.bytes l.c l.invariant.2 l.invariant.3 c.requires.0 q c.next_link-scanned.result.scan c.next_link-scanned.new.scratch c.next_link-scanned.ensures.scan _ c.in-Found.is c.args.render c.add.new.numbers c.add.new.bytes c.add.result c.add.ensures.step c.add.ensures.held _ c.in-Refused.is ∙ sym l.invariant.4;
+      held = tt;
+    }
 
 pub returns-in-NotFound : goal.returns-in-NotFound
 returns-in-NotFound c =
     let l = c.loop-c in
     let s = c.args.document.now in
-    let q : Roomy l.numbers l.bytes = (omega (arith, l.invariant.0, c.requires.1.0), omega (arith, l.invariant.1, c.requires.1.0)) in record { step = none-goes s l.numbers l.bytes l.c l.invariant.2 l.invariant.3 c.requires.0 q c.next_link-scanned.result.scan c.next_link-scanned.new.scratch c.next_link-scanned.ensures.scan c.args.render c.in-NotFound.is ∙ sym l.invariant.4; held = (l.invariant.2, l.invariant.3) }
+    let q : Roomy l.numbers l.bytes = (omega (arith, l.invariant.0, c.requires.1.0), omega (arith, l.invariant.1, c.requires.1.0)) in
+    record {
+      step = none-goes s l.numbers l.bytes l.c l.invariant.2 l.invariant.3 c.requires.0 q c.next_link-scanned.result.scan c.next_link-scanned.new.scratch c.next_link-scanned.ensures.scan c.args.render c.in-NotFound.is ∙ sym l.invariant.4;
+      held = (l.invariant.2, l.invariant.3);
+    }
 
 pub returns-in-NoRoom : goal.returns-in-NoRoom
 returns-in-NoRoom c =
@@ -117,4 +125,8 @@ returns-in-NoRoom c =
 pub returns : goal.returns
 returns c =
     let w = c.args in
-    let l = c.loop-c in record { step = end_goes w.render w.document.now l.numbers l.bytes l.c (omega arith) ∙ sym l.invariant.4; held = (l.invariant.2, l.invariant.3) }
+    let l = c.loop-c in
+    record {
+      step = end_goes w.render w.document.now l.numbers l.bytes l.c (omega arith) ∙ sym l.invariant.4;
+      held = (l.invariant.2, l.invariant.3);
+    }

@@ -27,7 +27,18 @@ returns-then-is_anonymous c =
     let w = c.args in
     let e = ap (λ (z : Numbered). z.number) c.next_target-x.ensures in
     let a = sym c.is_anonymous.ensures ∙ c.if-is_anonymous.true in
-    let f = c.write_numbered-n.ensures.size ∙ ap (λ (z : ℕ). length (numbered z)) e in record { label = numbered-label w.a (w.c.counters.targets + 1) w.c w.bytes.now a c.write_numbered-n.new.bytes _ c.write_numbered-n.result c.next_target-x.result.counters f (c.write_numbered-n.ensures.written ∙ ap (λ (z : ℕ). numbered z ++ drop (length (numbered z)) (take (length w.bytes.now - w.c.fill) (drop w.c.fill w.bytes.now))) e) (omega (arith, c.requires)); counted = numbered-counted w.a (w.c.counters.targets + 1) w.c w.bytes.now a w.c.counters.targets c.next_target-x.result.counters.targets c.write_numbered-n.result (ap (λ (z : Numbered). z.counters.targets) c.next_target-x.ensures) f; other = ap (λ (z : Numbered). z.counters.references) c.next_target-x.ensures }
+    let f = c.write_numbered-n.ensures.size ∙ ap (λ (z : ℕ). length (numbered z)) e in
+    record {
+      label = numbered-label w.a (w.c.counters.targets + 1) w.c w.bytes.now a c.write_numbered-n.new.bytes _ c.write_numbered-n.result c.next_target-x.result.counters f (c.write_numbered-n.ensures.written ∙ ap (λ (z : ℕ). numbered z ++ drop (length (numbered z)) (take (length w.bytes.now - w.c.fill) (drop w.c.fill w.bytes.now))) e) (omega (arith, c.requires));
+      counted = numbered-counted w.a (w.c.counters.targets + 1) w.c w.bytes.now a w.c.counters.targets c.next_target-x.result.counters.targets c.write_numbered-n.result (ap (λ (z : Numbered). z.counters.targets) c.next_target-x.ensures) f;
+      other = ap (λ (z : Numbered). z.counters.references) c.next_target-x.ensures;
+    }
 
 pub returns : goal.returns
-returns c = let w = c.args in record { label = same-label w.a (w.c.counters.targets + 1) w.c w.bytes.now (sym c.is_anonymous.ensures ∙ c.if-is_anonymous.false) c.requires.1.1; counted = same-counted w.a (w.c.counters.targets + 1) w.c w.bytes.now (sym c.is_anonymous.ensures ∙ c.if-is_anonymous.false) w.c.counters.targets; other = refl }
+returns c =
+    let w = c.args in
+    record {
+      label = same-label w.a (w.c.counters.targets + 1) w.c w.bytes.now (sym c.is_anonymous.ensures ∙ c.if-is_anonymous.false) c.requires.1.1;
+      counted = same-counted w.a (w.c.counters.targets + 1) w.c w.bytes.now (sym c.is_anonymous.ensures ∙ c.if-is_anonymous.false) w.c.counters.targets;
+      other = refl;
+    }

@@ -28,4 +28,9 @@ pub shape_of-numbers : goal.shape_of-numbers
 shape_of-numbers c = c.loop-i.invariant.long ∙ c.clear_buckets.auto.numbers
 
 pub returns : goal.returns
-returns c = let done = indexing-done _ _ _ _ _ c.loop-i.invariant _ c.clear_buckets.ensures c.loop-i-test.false in record { kept = done.0; indexed = done.1 }
+returns c =
+    let done = indexing-done _ _ _ _ _ c.loop-i.invariant _ c.clear_buckets.ensures c.loop-i-test.false in
+    record {
+      kept = done.0;
+      indexed = done.1;
+    }

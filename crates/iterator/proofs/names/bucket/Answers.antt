@@ -32,4 +32,9 @@ pub loop-i-preserved : goal.loop-i-preserved
 loop-i-preserved c = counting_more _ _ _ _ _ c.requires c.loop-i-test.true c.loop-i.invariant
 
 pub returns : goal.returns
-returns c = let pair = counting-end _ _ _ _ c.loop-i.invariant c.loop-i-test.false in record { bucket = pair.0; small = pair.1 }
+returns c =
+    let pair = counting-end _ _ _ _ c.loop-i.invariant c.loop-i-test.false in
+    record {
+      bucket = pair.0;
+      small = pair.1;
+    }

@@ -9,7 +9,12 @@ pub bounds-bytes-1 : goal.bounds-bytes-1
 bounds-bytes-1 c = simp length-set (omega arith)
 
 pub returns-then-number-lt10 : goal.returns-then-number-lt10
-returns-then-number-lt10 c = let pair = front-one c.args.number c.args.bytes.now c.requires.1 c.digit.result (omega arith) c.digit.ensures in record { written = pair.0; size = pair.1 }
+returns-then-number-lt10 c =
+    let pair = front-one c.args.number c.args.bytes.now c.requires.1 c.digit.result (omega arith) c.digit.ensures in
+    record {
+      written = pair.0;
+      size = pair.1;
+    }
 
 pub bounds-bytes-1-then-number-lt100 : goal.bounds-bytes-1-then-number-lt100
 bounds-bytes-1-then-number-lt100 c = simp length-set (omega arith)

@@ -51,7 +51,11 @@ pub returns-then-same_name : goal.returns-then-same_name
 returns-then-same_name c =
     let l = c.loop-i in
     let a = c.args in
-    let same = sym c.same_name.ensures ∙ c.if-same_name.true in record { found = sym (l.invariant.rest ∙ row_same a.numbers.now a.bytes.now a.name l.i c.pair_at-row.result (omega arith) c.pair_at-row.ensures same); within = (row_within a.n a.numbers.now l.i c.pair_at-row.result (omega arith) l.invariant.inside c.pair_at-row.ensures c.requires.0.1.1).1 }
+    let same = sym c.same_name.ensures ∙ c.if-same_name.true in
+    record {
+      found = sym (l.invariant.rest ∙ row_same a.numbers.now a.bytes.now a.name l.i c.pair_at-row.result (omega arith) c.pair_at-row.ensures same);
+      within = (row_within a.n a.numbers.now l.i c.pair_at-row.result (omega arith) l.invariant.inside c.pair_at-row.ensures c.requires.0.1.1).1;
+    }
 
 pub overflow_add-i-in-loop-i : goal.overflow_add-i-in-loop-i
 overflow_add-i-in-loop-i c = omega (arith, c.loop-i.invariant.inside, c.requires.0.0.0, c.requires.0.1.0)

@@ -34,7 +34,11 @@ pub returns-then-same_name : goal.returns-then-same_name
 returns-then-same_name c =
     let l = c.loop-i in
     let a = c.args in
-    let same = sym c.same_name.ensures ∙ c.if-same_name.true in record { found = sym (l.invariant.1.1 ∙ row_same a.numbers.now a.bytes.now a.name l.i c.pair_at-row.result (omega arith) c.pair_at-row.ensures same); within = (row_within a.n a.numbers.now l.i c.pair_at-row.result (omega arith) (omega arith) c.pair_at-row.ensures c.requires.1.1.1.0).1 }
+    let same = sym c.same_name.ensures ∙ c.if-same_name.true in
+    record {
+      found = sym (l.invariant.1.1 ∙ row_same a.numbers.now a.bytes.now a.name l.i c.pair_at-row.result (omega arith) c.pair_at-row.ensures same);
+      within = (row_within a.n a.numbers.now l.i c.pair_at-row.result (omega arith) (omega arith) c.pair_at-row.ensures c.requires.1.1.1.0).1;
+    }
 
 pub loop-i-smaller : goal.loop-i-smaller
 loop-i-smaller c = omega arith
@@ -51,4 +55,8 @@ returns c =
     let l = c.loop-i in
     let a = c.args in
     let e : l.i ≡ a.from = omega arith in
-    let f = ap (λ k. lookup (part a.name a.bytes.now) (pairs_of k destinations_at a.numbers.now a.bytes.now)) e in record { found = sym (l.invariant.1.1 ∙ f ∙ c.requires.1.1.1.1.1); within = tt }
+    let f = ap (λ k. lookup (part a.name a.bytes.now) (pairs_of k destinations_at a.numbers.now a.bytes.now)) e in
+    record {
+      found = sym (l.invariant.1.1 ∙ f ∙ c.requires.1.1.1.1.1);
+      within = tt;
+    }

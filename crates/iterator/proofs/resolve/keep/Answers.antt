@@ -16,4 +16,9 @@ overflow_add-result-2 c =
     omega (arith, keep-size a.x a.r a.document.now a.numbers.now a.bytes.now c.requires _ c.record_len-size.ensures)
 
 pub returns : goal.returns
-returns c = let r = c.args.r in record { links = ap {B = Resolved} (λ (n : ℕ). record { links = r.links + 1; size = r.size + n }) c.record_len-size.ensures; row = c.put_link.ensures }
+returns c =
+    let r = c.args.r in
+    record {
+      links = ap {B = Resolved} (λ (n : ℕ). record { links = r.links + 1; size = r.size + n }) c.record_len-size.ensures;
+      row = c.put_link.ensures;
+    }

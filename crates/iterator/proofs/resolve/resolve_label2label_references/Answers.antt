@@ -47,4 +47,8 @@ shape_of-numbers c = c.loop-v.invariant.1
 pub returns : goal.returns
 returns c =
     let a = c.args in
-    let l = c.loop-v in let done = ended a.aliases a.destinations a.numbers.now a.bytes.now l.numbers l.v l.invariant.0 c.loop-v-test.false in record { resolved = done.0; held = done.1 }
+    let l = c.loop-v in let done = ended a.aliases a.destinations a.numbers.now a.bytes.now l.numbers l.v l.invariant.0 c.loop-v-test.false in
+    record {
+      resolved = done.0;
+      held = done.1;
+    }

@@ -32,10 +32,19 @@ returns-in-Has c =
 pub returns-in-NotThere : goal.returns-in-NotThere
 returns-in-NotThere c =
     let pair = link-dropped _ _ _ _ _ _ _ c.requires.1 _ c.link_at-x.ensures c.requires.0 c.if-x-eq-REFERENCE.true
-    (sym c.destination_by_index.ensures.found ∙ ap (λ (l : Lookup). found_of l c.args.bytes.now) c.in-NotThere.is) in record { links = pair.0; held = pair.1 }
+    (sym c.destination_by_index.ensures.found ∙ ap (λ (l : Lookup). found_of l c.args.bytes.now) c.in-NotThere.is) in
+    record {
+      links = pair.0;
+      held = pair.1;
+    }
 
 pub keep-requires-2 : goal.keep-requires-2
 keep-requires-2 c = keep-direct _ _ _ _ _ _ _ c.requires.1 _ c.link_at-x.ensures c.requires.0
 
 pub returns : goal.returns
-returns c = let pair = link-direct _ _ _ _ _ _ _ c.requires.1 _ c.link_at-x.ensures c.requires.0 c.if-x-eq-REFERENCE.false _ _ c.keep-2.ensures.links c.keep-2.ensures.row in record { links = pair.0; held = pair.1 }
+returns c =
+    let pair = link-direct _ _ _ _ _ _ _ c.requires.1 _ c.link_at-x.ensures c.requires.0 c.if-x-eq-REFERENCE.false _ _ c.keep-2.ensures.links c.keep-2.ensures.row in
+    record {
+      links = pair.0;
+      held = pair.1;
+    }

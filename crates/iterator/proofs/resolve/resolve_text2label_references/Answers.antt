@@ -34,4 +34,8 @@ shape_of-numbers c = c.loop-i.invariant.long ∙ c.index_names.auto.numbers
 pub returns : goal.returns
 returns c =
     let k = references-kept _ _ _ c.args.numbers.now c.index_names.new.numbers _ c.requires c.index_names.auto.numbers c.index_names.ensures.kept in
-    let d = references-done _ _ _ _ _ _ _ _ c.loop-i.invariant c.loop-i-test.false in record { links = d.0 ∙ k.1; held = d.1 }
+    let d = references-done _ _ _ _ _ _ _ _ c.loop-i.invariant c.loop-i-test.false in
+    record {
+      links = d.0 ∙ k.1;
+      held = d.1;
+    }

@@ -37,9 +37,21 @@ overflow_add-result-in-NotThere-3 c = omega (arith, c.requires.0.few, c.requires
 pub returns-in-Has : goal.returns-in-Has
 returns-in-Has c =
     let a = c.args in
-    let tried = stored a.numbers.now a.bytes.now a.v c.requires c.pair_at-x.result c.pair_at-x.ensures _ c.destination_of.result in let pair = tried c.destination_of.ensures.within c.in-Has.is c.destination_of.ensures.found _ c.put_pair.ensures in record { walk = pair.0; walking = pair.1.0; fewer = pair.1.1.0; links = pair.1.1.1 }
+    let tried = stored a.numbers.now a.bytes.now a.v c.requires c.pair_at-x.result c.pair_at-x.ensures _ c.destination_of.result in let pair = tried c.destination_of.ensures.within c.in-Has.is c.destination_of.ensures.found _ c.put_pair.ensures in
+    record {
+      walk = pair.0;
+      walking = pair.1.0;
+      fewer = pair.1.1.0;
+      links = pair.1.1.1;
+    }
 
 pub returns-in-NotThere : goal.returns-in-NotThere
 returns-in-NotThere c =
     let a = c.args in
-    let tried = passed a.numbers.now a.bytes.now a.v c.requires c.pair_at-x.result c.pair_at-x.ensures c.destination_of.result in let pair = tried c.destination_of.ensures.found c.in-NotThere.is _ c.put_pair-in-NotThere.ensures in record { walk = pair.0; walking = pair.1.0; fewer = pair.1.1.0; links = pair.1.1.1 }
+    let tried = passed a.numbers.now a.bytes.now a.v c.requires c.pair_at-x.result c.pair_at-x.ensures c.destination_of.result in let pair = tried c.destination_of.ensures.found c.in-NotThere.is _ c.put_pair-in-NotThere.ensures in
+    record {
+      walk = pair.0;
+      walking = pair.1.0;
+      fewer = pair.1.1.0;
+      links = pair.1.1.1;
+    }

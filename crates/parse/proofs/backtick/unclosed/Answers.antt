@@ -16,7 +16,11 @@ loop-i-init c = (omega arith, runs-start _)
 pub returns-then-s-j : goal.returns-then-s-j
 returns-then-s-j c =
     let s = c.args.s.now in
-    let i = c.loop-i.i in record { within = omega arith; shut = runs-shut s i c.loop-i.invariant.1 (unclosed-last s i (omega arith) (omega arith) c.if-b-eq96.true) }
+    let i = c.loop-i.i in
+    record {
+      within = omega arith;
+      shut = runs-shut s i c.loop-i.invariant.1 (unclosed-last s i (omega arith) (omega arith) c.if-b-eq96.true);
+    }
 
 pub returns-then-c-eq95 : goal.returns-then-c-eq95
 returns-then-c-eq95 c = record { within = omega arith; shut = each_none (Tick NoPart) _ 0 0 (omega arith) }
@@ -24,12 +28,20 @@ returns-then-c-eq95 c = record { within = omega arith; shut = each_none (Tick No
 pub returns-then-b-eq96 : goal.returns-then-b-eq96
 returns-then-b-eq96 c =
     let s = c.args.s.now in
-    let i = c.loop-i.i in record { within = omega arith; shut = runs-shut s i c.loop-i.invariant.1 (unclosed-other s i (omega arith) c.if-b-eq96.true c.if-c-eq95.false) }
+    let i = c.loop-i.i in
+    record {
+      within = omega arith;
+      shut = runs-shut s i c.loop-i.invariant.1 (unclosed-other s i (omega arith) c.if-b-eq96.true c.if-c-eq95.false);
+    }
 
 pub returns-then-s-j-2 : goal.returns-then-s-j-2
 returns-then-s-j-2 c =
     let s = c.args.s.now in
-    let i = c.loop-i.i in record { within = omega arith; shut = runs-shut s i c.loop-i.invariant.1 (unclosed-alone s i (omega arith) (omega arith) c.if-b-eq92.true) }
+    let i = c.loop-i.i in
+    record {
+      within = omega arith;
+      shut = runs-shut s i c.loop-i.invariant.1 (unclosed-alone s i (omega arith) (omega arith) c.if-b-eq92.true);
+    }
 
 pub loop-i-preserved-then-is_escapable : goal.loop-i-preserved-then-is_escapable
 loop-i-preserved-then-is_escapable c =
@@ -40,7 +52,11 @@ loop-i-preserved-then-is_escapable c =
 pub returns-else-is_escapable : goal.returns-else-is_escapable
 returns-else-is_escapable c =
     let s = c.args.s.now in
-    let i = c.loop-i.i in record { within = omega arith; shut = runs-shut s i c.loop-i.invariant.1 (unclosed-wrong s i (omega arith) c.if-b-eq92.true (sym c.is_escapable.ensures ∙ c.if-is_escapable.false)) }
+    let i = c.loop-i.i in
+    record {
+      within = omega arith;
+      shut = runs-shut s i c.loop-i.invariant.1 (unclosed-wrong s i (omega arith) c.if-b-eq92.true (sym c.is_escapable.ensures ∙ c.if-is_escapable.false));
+    }
 
 pub loop-i-preserved : goal.loop-i-preserved
 loop-i-preserved c =
@@ -51,4 +67,8 @@ loop-i-preserved c =
 pub returns : goal.returns
 returns c =
     let s = c.args.s.now in
-    let i = c.loop-i.i in record { within = omega arith; shut = runs-shut s i c.loop-i.invariant.1 (unclosed-end s i (omega arith)) }
+    let i = c.loop-i.i in
+    record {
+      within = omega arith;
+      shut = runs-shut s i c.loop-i.invariant.1 (unclosed-end s i (omega arith));
+    }

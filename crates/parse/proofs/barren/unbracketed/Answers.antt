@@ -28,7 +28,11 @@ pub returns-then-b-eq96 : goal.returns-then-b-eq96
 returns-then-b-eq96 c =
     let s = c.args.s.now in
     let l = c.loop-i in
-    let e = sym c.marked.ensures ∙ c.in-Taken.is in record { within = omega arith; barren = loop-tick s l.i l.invariant.1 _ (part-from s l.i) _ e (omega arith) c.if-b-eq96.true }
+    let e = sym c.marked.ensures ∙ c.in-Taken.is in
+    record {
+      within = omega arith;
+      barren = loop-tick s l.i l.invariant.1 _ (part-from s l.i) _ e (omega arith) c.if-b-eq96.true;
+    }
 
 pub loop-i-preserved : goal.loop-i-preserved
 loop-i-preserved c =

@@ -16,10 +16,18 @@ pub returns-in-Both : goal.returns-in-Both
 returns-in-Both c =
     let w = c.args in
     let e = c.parts_of-parts.ensures in
-    let h = handed-parts w.scratch.now w.first.now w.second.now _ _ c.write_both.result _ _ _ _ e.0 e.1 c.write_both.ensures.outcome in let pair = handed-both w.scratch.now w.first.now w.second.now _ _ c.write_both.result w.x _ _ _ c.with_parts.ensures c.in-Both.is h c.write_both.ensures.fronts in record { outcome = pair.0; fronts = pair.1 }
+    let h = handed-parts w.scratch.now w.first.now w.second.now _ _ c.write_both.result _ _ _ _ e.0 e.1 c.write_both.ensures.outcome in let pair = handed-both w.scratch.now w.first.now w.second.now _ _ c.write_both.result w.x _ _ _ c.with_parts.ensures c.in-Both.is h c.write_both.ensures.fronts in
+    record {
+      outcome = pair.0;
+      fronts = pair.1;
+    }
 
 pub returns-in-TooShort : goal.returns-in-TooShort
 returns-in-TooShort c =
     let w = c.args in
     let e = c.parts_of-parts.ensures in
-    let h = handed-parts w.scratch.now w.first.now w.second.now _ _ c.write_both.result _ _ _ _ e.0 e.1 c.write_both.ensures.outcome in record { outcome = handed-short w.scratch.now w.first.now w.second.now _ _ c.write_both.result w.x _ c.in-TooShort.is h; fronts = tt }
+    let h = handed-parts w.scratch.now w.first.now w.second.now _ _ c.write_both.result _ _ _ _ e.0 e.1 c.write_both.ensures.outcome in
+    record {
+      outcome = handed-short w.scratch.now w.first.now w.second.now _ _ c.write_both.result w.x _ c.in-TooShort.is h;
+      fronts = tt;
+    }

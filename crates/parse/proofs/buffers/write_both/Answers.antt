@@ -9,10 +9,20 @@ use Rattle.parse.proofs.SingleLaws.{hands-first, hands-second, hands-both}
 use Rattle.parse.proofs.buffers.write_both.Goals as goal
 
 pub returns-then-first-a : goal.returns-then-first-a
-returns-then-first-a c = let w = c.args in record { outcome = hands-first w.a w.b w.scratch.now w.first.now w.second.now c.requires c.if-first-a.true; fronts = tt }
+returns-then-first-a c =
+    let w = c.args in
+    record {
+      outcome = hands-first w.a w.b w.scratch.now w.first.now w.second.now c.requires c.if-first-a.true;
+      fronts = tt;
+    }
 
 pub returns-then-second-b : goal.returns-then-second-b
-returns-then-second-b c = let w = c.args in record { outcome = hands-second w.a w.b w.scratch.now w.first.now w.second.now c.requires c.if-first-a.false c.if-second-b.true; fronts = tt }
+returns-then-second-b c =
+    let w = c.args in
+    record {
+      outcome = hands-second w.a w.b w.scratch.now w.first.now w.second.now c.requires c.if-first-a.false c.if-second-b.true;
+      fronts = tt;
+    }
 
 pub returns : goal.returns
 returns c =

@@ -12,14 +12,23 @@ use Rattle.parse.proofs.forms.embedded.Goals as goal
 pub with_unreported-m-requires : goal.with_unreported-m-requires
 with_unreported-m-requires c =
     let w = c.args in
-    let e = answered w.s.now w.scratch.now _ _ _ _ c.requires.room c.rst_text2dest.ensures.strings c.in-Found.is in record { room = ((text2dest-consumed w.s.now _ _ _ e).1, omega (arith, c.requires.room, c.rst_text2dest.auto.scratch)); known = c.requires.known }
+    let e = answered w.s.now w.scratch.now _ _ _ _ c.requires.room c.rst_text2dest.ensures.strings c.in-Found.is in
+    record {
+      room = ((text2dest-consumed w.s.now _ _ _ e).1, omega (arith, c.requires.room, c.rst_text2dest.auto.scratch));
+      known = c.requires.known;
+    }
 
 pub returns-in-Found : goal.returns-in-Found
 returns-in-Found c =
     let w = c.args in
     let e = answered w.s.now w.scratch.now _ _ _ _ c.requires.room c.rst_text2dest.ensures.strings c.in-Found.is in
     let f = subst Ends c.in-Found.is c.rst_text2dest.ensures.ends in
-    let g = c.with_unreported-m.ensures in record { scan = embedded-anonymous w.s.now w.skipped _ _ _ _ (e ∙ link-kept _ _ _ _ _ f g.kept) g.consumed; ends = (omega (arith, f.0, g.consumed), omega (arith, f.1, g.consumed)); free = λ t q. free-behind w.s.now t w.skipped _ _ q g.free }
+    let g = c.with_unreported-m.ensures in
+    record {
+      scan = embedded-anonymous w.s.now w.skipped _ _ _ _ (e ∙ link-kept _ _ _ _ _ f g.kept) g.consumed;
+      ends = (omega (arith, f.0, g.consumed), omega (arith, f.1, g.consumed));
+      free = λ t q. free-behind w.s.now t w.skipped _ _ q g.free;
+    }
 
 pub returns-in-NoRoom : goal.returns-in-NoRoom
 returns-in-NoRoom c = let w = c.args in absurd (text2dest-room w.s.now (answered w.s.now w.scratch.now _ _ _ _ c.requires.room c.rst_text2dest.ensures.strings c.in-NoRoom.is))
@@ -27,7 +36,11 @@ returns-in-NoRoom c = let w = c.args in absurd (text2dest-room w.s.now (answered
 pub with_unreported-m-requires-in-Found-rst_text_label2dest : goal.with_unreported-m-requires-in-Found-rst_text_label2dest
 with_unreported-m-requires-in-Found-rst_text_label2dest c =
     let w = c.args in
-    let e = answered w.s.now c.rst_text2dest.new.scratch _ _ _ _ (omega (arith, c.requires.room, c.rst_text2dest.auto.scratch)) c.rst_text_label2dest.ensures.strings c.in-Found-rst_text_label2dest.is in record { room = ((text-label2dest-consumed w.s.now _ _ _ e).1, omega (arith, c.requires.room, c.rst_text2dest.auto.scratch, c.rst_text_label2dest.auto.scratch)); known = c.requires.known }
+    let e = answered w.s.now c.rst_text2dest.new.scratch _ _ _ _ (omega (arith, c.requires.room, c.rst_text2dest.auto.scratch)) c.rst_text_label2dest.ensures.strings c.in-Found-rst_text_label2dest.is in
+    record {
+      room = ((text-label2dest-consumed w.s.now _ _ _ e).1, omega (arith, c.requires.room, c.rst_text2dest.auto.scratch, c.rst_text_label2dest.auto.scratch));
+      known = c.requires.known;
+    }
 
 pub returns-in-Found-rst_text_label2dest : goal.returns-in-Found-rst_text_label2dest
 returns-in-Found-rst_text_label2dest c =
@@ -35,13 +48,23 @@ returns-in-Found-rst_text_label2dest c =
     let e = answered w.s.now w.scratch.now _ _ _ _ c.requires.room c.rst_text2dest.ensures.strings c.in-NotFound.is in
     let f = answered w.s.now c.rst_text2dest.new.scratch _ _ _ _ (omega (arith, c.requires.room, c.rst_text2dest.auto.scratch)) c.rst_text_label2dest.ensures.strings c.in-Found-rst_text_label2dest.is in
     let g = subst Ends c.in-Found-rst_text_label2dest.is c.rst_text_label2dest.ensures.ends in
-    let h = c.with_unreported-m-in-Found-rst_text_label2dest.ensures in record { scan = embedded-named w.s.now w.skipped _ _ _ _ e (f ∙ link-kept _ _ _ _ _ g h.kept) h.consumed; ends = (omega (arith, g.0, h.consumed), omega (arith, g.1, h.consumed)); free = λ t q. free-behind w.s.now t w.skipped _ _ q h.free }
+    let h = c.with_unreported-m-in-Found-rst_text_label2dest.ensures in
+    record {
+      scan = embedded-named w.s.now w.skipped _ _ _ _ e (f ∙ link-kept _ _ _ _ _ g h.kept) h.consumed;
+      ends = (omega (arith, g.0, h.consumed), omega (arith, g.1, h.consumed));
+      free = λ t q. free-behind w.s.now t w.skipped _ _ q h.free;
+    }
 
 pub returns-in-NotFound-rst_text_label2dest : goal.returns-in-NotFound-rst_text_label2dest
 returns-in-NotFound-rst_text_label2dest c =
     let w = c.args in
     let e = answered w.s.now w.scratch.now _ _ _ _ c.requires.room c.rst_text2dest.ensures.strings c.in-NotFound.is in
-    let f = answered w.s.now c.rst_text2dest.new.scratch _ _ _ _ (omega (arith, c.requires.room, c.rst_text2dest.auto.scratch)) c.rst_text_label2dest.ensures.strings c.in-NotFound-rst_text_label2dest.is in record { scan = embedded-nothing w.s.now w.skipped e f; ends = tt; free = λ t q. refl }
+    let f = answered w.s.now c.rst_text2dest.new.scratch _ _ _ _ (omega (arith, c.requires.room, c.rst_text2dest.auto.scratch)) c.rst_text_label2dest.ensures.strings c.in-NotFound-rst_text_label2dest.is in
+    record {
+      scan = embedded-nothing w.s.now w.skipped e f;
+      ends = tt;
+      free = λ t q. refl;
+    }
 
 pub returns-in-NoRoom-rst_text_label2dest : goal.returns-in-NoRoom-rst_text_label2dest
 returns-in-NoRoom-rst_text_label2dest c = let w = c.args in absurd (text-label2dest-room w.s.now (answered w.s.now c.rst_text2dest.new.scratch _ _ _ _ (omega (arith, c.requires.room, c.rst_text2dest.auto.scratch)) c.rst_text_label2dest.ensures.strings c.in-NoRoom-rst_text_label2dest.is))

@@ -15,13 +15,31 @@ overflow_add-result c =
     omega (arith, unreported-le c.args.s.now c.args.n _ _ _ c.requires.room.0 e.1)
 
 pub returns-in-Alias : goal.returns-in-Alias
-returns-in-Alias c = let e = unreported-answered c.args.s.now c.args.n c.args.scratch.now c.rst_target.new.scratch c.rst_target.result _ c.requires.room c.rst_target.ensures.alias c.rst_target.ensures.destination c.in-Alias.is in record { consumed = unreported-none c.args.s.now c.args.n e.1; kept = front_kept c.args.n c.args.scratch.now c.rst_target.new.scratch (omega (arith, c.requires.room)); free = free-nothing _ }
+returns-in-Alias c =
+    let e = unreported-answered c.args.s.now c.args.n c.args.scratch.now c.rst_target.new.scratch c.rst_target.result _ c.requires.room c.rst_target.ensures.alias c.rst_target.ensures.destination c.in-Alias.is in
+    record {
+      consumed = unreported-none c.args.s.now c.args.n e.1;
+      kept = front_kept c.args.n c.args.scratch.now c.rst_target.new.scratch (omega (arith, c.requires.room));
+      free = free-nothing _;
+    }
 
 pub returns-in-Destination : goal.returns-in-Destination
-returns-in-Destination c = let e = unreported-answered c.args.s.now c.args.n c.args.scratch.now c.rst_target.new.scratch c.rst_target.result _ c.requires.room c.rst_target.ensures.alias c.rst_target.ensures.destination c.in-Destination.is in record { consumed = unreported-found c.args.s.now c.args.n _ _ _ e.1; kept = front_kept c.args.n c.args.scratch.now c.rst_target.new.scratch (omega (arith, c.requires.room)); free = free-nothing _ }
+returns-in-Destination c =
+    let e = unreported-answered c.args.s.now c.args.n c.args.scratch.now c.rst_target.new.scratch c.rst_target.result _ c.requires.room c.rst_target.ensures.alias c.rst_target.ensures.destination c.in-Destination.is in
+    record {
+      consumed = unreported-found c.args.s.now c.args.n _ _ _ e.1;
+      kept = front_kept c.args.n c.args.scratch.now c.rst_target.new.scratch (omega (arith, c.requires.room));
+      free = free-nothing _;
+    }
 
 pub returns-in-NoDefinition : goal.returns-in-NoDefinition
-returns-in-NoDefinition c = let e = unreported-answered c.args.s.now c.args.n c.args.scratch.now c.rst_target.new.scratch c.rst_target.result _ c.requires.room c.rst_target.ensures.alias c.rst_target.ensures.destination c.in-NoDefinition.is in record { consumed = unreported-none c.args.s.now c.args.n e.1; kept = front_kept c.args.n c.args.scratch.now c.rst_target.new.scratch (omega (arith, c.requires.room)); free = λ h. no_block (drop c.args.n c.args.s.now) e.0 e.1 }
+returns-in-NoDefinition c =
+    let e = unreported-answered c.args.s.now c.args.n c.args.scratch.now c.rst_target.new.scratch c.rst_target.result _ c.requires.room c.rst_target.ensures.alias c.rst_target.ensures.destination c.in-NoDefinition.is in
+    record {
+      consumed = unreported-none c.args.s.now c.args.n e.1;
+      kept = front_kept c.args.n c.args.scratch.now c.rst_target.new.scratch (omega (arith, c.requires.room));
+      free = λ h. no_block (drop c.args.n c.args.s.now) e.0 e.1;
+    }
 
 pub returns-in-Unread : goal.returns-in-Unread
 returns-in-Unread c = let e = unreported-answered c.args.s.now c.args.n c.args.scratch.now c.rst_target.new.scratch c.rst_target.result _ c.requires.room c.rst_target.ensures.alias c.rst_target.ensures.destination c.in-Unread.is in absurd (label2label-room _ e.0)
@@ -29,4 +47,9 @@ returns-in-Unread c = let e = unreported-answered c.args.s.now c.args.n c.args.s
 pub returns : goal.returns
 returns c =
     let s = c.args in
-    let f = c.may_begin.ensures c.if-may_begin.false in record { consumed = no-block-unreported s.s.now s.n f; kept = refl; free = λ h. f }
+    let f = c.may_begin.ensures c.if-may_begin.false in
+    record {
+      consumed = no-block-unreported s.s.now s.n f;
+      kept = refl;
+      free = λ h. f;
+    }

@@ -15,7 +15,11 @@ use Rattle.parse.proofs.RoundLaws.{reference-opened, reference-plain}
 use Rattle.parse.proofs.rounds.reference_at.Goals as goal
 
 pub reference-requires : goal.reference-requires
-reference-requires c = record { room = part_room (c.args.i + 1) c.args.s.now c.args.scratch.now c.requires.room.1; known = barred-part c.args.marks.now c.args.s.now c.requires.known (c.args.i + 1) _ (part-from c.args.s.now (c.args.i + 1)) }
+reference-requires c =
+    record {
+      room = part_room (c.args.i + 1) c.args.s.now c.args.scratch.now c.requires.room.1;
+      known = barred-part c.args.marks.now c.args.s.now c.requires.known (c.args.i + 1) _ (part-from c.args.s.now (c.args.i + 1));
+    }
 
 pub returns-then-is_opening : goal.returns-then-is_opening
 returns-then-is_opening c =
@@ -29,7 +33,11 @@ returns-then-is_opening c =
     }
 
 pub reference-requires-then-spaced : goal.reference-requires-then-spaced
-reference-requires-then-spaced c = record { room = part_room c.args.i c.args.s.now c.args.scratch.now c.requires.room.1; known = barred-part c.args.marks.now c.args.s.now c.requires.known c.args.i _ (part-from c.args.s.now c.args.i) }
+reference-requires-then-spaced c =
+    record {
+      room = part_room c.args.i c.args.s.now c.args.scratch.now c.requires.room.1;
+      known = barred-part c.args.marks.now c.args.s.now c.requires.known c.args.i _ (part-from c.args.s.now c.args.i);
+    }
 
 pub returns-then-spaced : goal.returns-then-spaced
 returns-then-spaced c =

@@ -17,7 +17,12 @@ overflow_add-a c =
     omega (arith, lfs-le w.s.now w.i _ c.requires.room.0 c.newlines-n.ensures)
 
 pub is_read-read-requires : goal.is_read-read-requires
-is_read-read-requires c = let w = c.args in record { place = lfs-le w.s.now w.i _ c.requires.room.0 c.newlines-n.ensures; known = holds_later w.s.now w.marks.now w.i _ w.known (omega arith) c.requires.known }
+is_read-read-requires c =
+    let w = c.args in
+    record {
+      place = lfs-le w.s.now w.i _ c.requires.room.0 c.newlines-n.ensures;
+      known = holds_later w.s.now w.marks.now w.i _ w.known (omega arith) c.requires.known;
+    }
 
 pub block_at-requires : goal.block_at-requires
 block_at-requires c =
@@ -69,7 +74,11 @@ pub text_round-requires : goal.text_round-requires
 text_round-requires c =
     let w = c.args in
     let n = c.newlines-n.result in
-    let h = blanks-le w.s.now (w.i + n) _ (lfs-le w.s.now w.i _ c.requires.room.0 c.newlines-n.ensures) c.space0-m.ensures in record { room = (h, omega (arith, c.requires.room.1, c.block_at.auto.scratch)); known = c.missed.ensures _ w.marks.now w.s.now (holds_later w.s.now w.marks.now w.i _ w.known (omega arith) c.requires.known) }
+    let h = blanks-le w.s.now (w.i + n) _ (lfs-le w.s.now w.i _ c.requires.room.0 c.newlines-n.ensures) c.space0-m.ensures in
+    record {
+      room = (h, omega (arith, c.requires.room.1, c.block_at.auto.scratch));
+      known = c.missed.ensures _ w.marks.now w.s.now (holds_later w.s.now w.marks.now w.i _ w.known (omega arith) c.requires.known);
+    }
 
 pub returns : goal.returns
 returns c =

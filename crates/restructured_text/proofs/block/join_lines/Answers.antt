@@ -63,7 +63,13 @@ pub shape_of-d-in-End : goal.shape_of-d-in-End
 shape_of-d-in-End c = c.loop-a.invariant.len
 
 pub returns-in-End : goal.returns-in-End
-returns-in-End c = let pair = joins-end c.loop-a.invariant (sym c.further_line.ensures ∙ c.in-End.is) in record { len = pair.0; read = pair.1.0; text = pair.1.1 }
+returns-in-End c =
+    let pair = joins-end c.loop-a.invariant (sym c.further_line.ensures ∙ c.in-End.is) in
+    record {
+      len = pair.0;
+      read = pair.1.0;
+      text = pair.1.1;
+    }
 
 pub slice_bounds-copy-start-in-Further : goal.slice_bounds-copy-start-in-Further
 slice_bounds-copy-start-in-Further c =

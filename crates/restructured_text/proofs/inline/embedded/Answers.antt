@@ -15,7 +15,12 @@ use Rattle.restructured_text.proofs.InlineLaws.{finished-copied, finished-none}
 use Rattle.restructured_text.proofs.inline.embedded.Goals as goal
 
 pub returns-then-scratch-s : goal.returns-then-scratch-s
-returns-then-scratch-s c = let w = c.args in record { strings = lent-short w.s.now w.scratch.now (embedded_of w.anonym w.s.now) c.if-scratch-s.true; ends = tt }
+returns-then-scratch-s c =
+    let w = c.args in
+    record {
+      strings = lent-short w.s.now w.scratch.now (embedded_of w.anonym w.s.now) c.if-scratch-s.true;
+      ends = tt;
+    }
 
 pub slice_bounds-copy-end : goal.slice_bounds-copy-end
 slice_bounds-copy-end c =
@@ -44,4 +49,9 @@ returns-in-Parsed c =
     }
 
 pub returns-in-Nothing : goal.returns-in-Nothing
-returns-in-Nothing c = let w = c.args in record { strings = finished-none true w.s.now w.scratch.now (text2target_of w.anonym false w.s.now) (sym c.rst_parse_text2target.ensures ∙ c.in-Nothing.is) c.if-scratch-s.false; ends = tt }
+returns-in-Nothing c =
+    let w = c.args in
+    record {
+      strings = finished-none true w.s.now w.scratch.now (text2target_of w.anonym false w.s.now) (sym c.rst_parse_text2target.ensures ∙ c.in-Nothing.is) c.if-scratch-s.false;
+      ends = tt;
+    }

@@ -16,7 +16,12 @@ use Rattle.restructured_text.proofs.InlineLaws.{finished-copied, finished-shared
 use Rattle.restructured_text.proofs.inline.rst_text2label.Goals as goal
 
 pub returns-then-scratch-s : goal.returns-then-scratch-s
-returns-then-scratch-s c = let w = c.args in record { strings = lent-short w.s.now w.scratch.now (text2label_of w.s.now) c.if-scratch-s.true; ends = tt }
+returns-then-scratch-s c =
+    let w = c.args in
+    record {
+      strings = lent-short w.s.now w.scratch.now (text2label_of w.s.now) c.if-scratch-s.true;
+      ends = tt;
+    }
 
 pub slice_bounds-copy-end : goal.slice_bounds-copy-end
 slice_bounds-copy-end c =
@@ -70,4 +75,9 @@ returns-else-e-label c =
 
 pub returns-in-Nothing : goal.returns-in-Nothing
 unfolding text2label_of
-returns-in-Nothing c = let w = c.args in record { strings = finished-none false w.s.now w.scratch.now (parse_text2label_of w.s.now) (sym c.rst_parse_text2label.ensures ∙ c.in-Nothing.is) c.if-scratch-s.false; ends = tt }
+returns-in-Nothing c =
+    let w = c.args in
+    record {
+      strings = finished-none false w.s.now w.scratch.now (parse_text2label_of w.s.now) (sym c.rst_parse_text2label.ensures ∙ c.in-Nothing.is) c.if-scratch-s.false;
+      ends = tt;
+    }

@@ -9,7 +9,11 @@ use Rattle.restructured_text.proofs.scratch.shared.Goals as goal
 pub returns-in-Text : goal.returns-in-Text
 returns-in-Text c =
     let pair = linked-shared c.args.a c.args.n c.args.d.now c.transform.new.d c.requires _
-    (record { len = c.transform.auto.d; answer = sym c.in-Text.is ∙ c.transform.ensures.answer; bytes = c.transform.ensures.bytes }) in record { strings = pair.0; ends = pair.1 }
+    (record { len = c.transform.auto.d; answer = sym c.in-Text.is ∙ c.transform.ensures.answer; bytes = c.transform.ensures.bytes }) in
+    record {
+      strings = pair.0;
+      ends = pair.1;
+    }
 
 pub returns-in-Wrong : goal.returns-in-Wrong
 returns-in-Wrong c =

@@ -9,7 +9,11 @@ pub returns-in-Text-transform : goal.returns-in-Text-transform
 returns-in-Text-transform c =
     let pair = linked-both c.args.destination c.args.a c.args.b c.args.n c.args.d.now c.transform.new.d c.transform-in-Text.new.d c.requires _ _
     (record { len = c.transform.auto.d; answer = sym c.in-Text.is ∙ c.transform.ensures.answer; bytes = c.transform.ensures.bytes })
-    (record { len = c.transform-in-Text.auto.d; answer = sym c.in-Text-transform.is ∙ c.transform-in-Text.ensures.answer; bytes = c.transform-in-Text.ensures.bytes }) in record { strings = pair.0; ends = pair.1 }
+    (record { len = c.transform-in-Text.auto.d; answer = sym c.in-Text-transform.is ∙ c.transform-in-Text.ensures.answer; bytes = c.transform-in-Text.ensures.bytes }) in
+    record {
+      strings = pair.0;
+      ends = pair.1;
+    }
 
 pub returns-in-Wrong-transform : goal.returns-in-Wrong-transform
 returns-in-Wrong-transform c =

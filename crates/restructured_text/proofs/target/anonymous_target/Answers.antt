@@ -18,13 +18,31 @@ pub slice_bounds-is_wrong-end : goal.slice_bounds-is_wrong-end
 slice_bounds-is_wrong-end c = omega (arith, c.requires, anonymous-stands c.args.d.now c.args.len c.args.n c.requires _ c.raw_target-raw.ensures)
 
 pub returns-then-is_wrong : goal.returns-then-is_wrong
-returns-then-is_wrong c = let pair = anonymous-dead c.args.d.now c.args.len c.args.n c.requires _ c.raw_target-raw.ensures (sym c.is_wrong.ensures ∙ c.if-is_wrong.true) in record { alias = pair.0; destination = pair.1.0; ends = pair.1.1 }
+returns-then-is_wrong c =
+    let pair = anonymous-dead c.args.d.now c.args.len c.args.n c.requires _ c.raw_target-raw.ensures (sym c.is_wrong.ensures ∙ c.if-is_wrong.true) in
+    record {
+      alias = pair.0;
+      destination = pair.1.0;
+      ends = pair.1.1;
+    }
 
 pub slice_bounds-rst_escaped_link_destination_transform-end : goal.slice_bounds-rst_escaped_link_destination_transform-end
 slice_bounds-rst_escaped_link_destination_transform-end c = omega (arith, c.requires, anonymous-stands c.args.d.now c.args.len c.args.n c.requires _ c.raw_target-raw.ensures)
 
 pub returns-in_default : goal.returns-in_default
-returns-in_default c = let pair = anonymous-refused c.args.d.now c.args.len c.args.n c.requires _ c.raw_target-raw.ensures (sym c.in_default.is ∙ c.rst_escaped_link_destination_transform.ensures.answer) in record { alias = pair.0; destination = pair.1.0; ends = pair.1.1 }
+returns-in_default c =
+    let pair = anonymous-refused c.args.d.now c.args.len c.args.n c.requires _ c.raw_target-raw.ensures (sym c.in_default.is ∙ c.rst_escaped_link_destination_transform.ensures.answer) in
+    record {
+      alias = pair.0;
+      destination = pair.1.0;
+      ends = pair.1.1;
+    }
 
 pub returns : goal.returns
-returns c = let pair = anonymous-told c.args.d.now c.args.len c.args.n c.requires _ c.raw_target-raw.ensures _ _ _ _ c.rst_escaped_link_destination_transform.auto.d (sym c.in-Text.is ∙ c.rst_escaped_link_destination_transform.ensures.answer) c.rst_escaped_link_destination_transform.ensures.bytes c.told.ensures in record { alias = pair.0; destination = pair.1.0; ends = pair.1.1 }
+returns c =
+    let pair = anonymous-told c.args.d.now c.args.len c.args.n c.requires _ c.raw_target-raw.ensures _ _ _ _ c.rst_escaped_link_destination_transform.auto.d (sym c.in-Text.is ∙ c.rst_escaped_link_destination_transform.ensures.answer) c.rst_escaped_link_destination_transform.ensures.bytes c.told.ensures in
+    record {
+      alias = pair.0;
+      destination = pair.1.0;
+      ends = pair.1.1;
+    }

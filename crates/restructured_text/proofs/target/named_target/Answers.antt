@@ -14,7 +14,13 @@ pub slice_bounds-text-end : goal.slice_bounds-text-end
 slice_bounds-text-end c = sym (length-take-le c.args.len c.args.d.now (omega (arith, c.requires)))
 
 pub returns-in_default : goal.returns-in_default
-returns-in_default c = let pair = nameless c.args.d.now c.args.len c.args.n c.requires (sym c.target_name.ensures ∙ c.in_default.is) in record { alias = pair.0; destination = pair.1.0; ends = pair.1.1 }
+returns-in_default c =
+    let pair = nameless c.args.d.now c.args.len c.args.n c.requires (sym c.target_name.ensures ∙ c.in_default.is) in
+    record {
+      alias = pair.0;
+      destination = pair.1.0;
+      ends = pair.1.1;
+    }
 
 pub slice_bounds-raw_target-count : goal.slice_bounds-raw_target-count
 slice_bounds-raw_target-count c = name-within _ _ _ (sym c.target_name.ensures ∙ c.in-Is.is)
@@ -38,7 +44,13 @@ slice_bounds-is_wrong-end c =
     named-inside c.args.d.now c.args.len c.args.n c.requires _ _ name _ (part-from (take c.args.len c.args.d.now) _) _ c.raw_target-raw.ensures
 
 pub returns-then-is_wrong : goal.returns-then-is_wrong
-returns-then-is_wrong c = let name = sym c.target_name.ensures ∙ c.in-Is.is in let pair = named-dead c.args.d.now c.args.len c.args.n c.requires _ _ name _ (part-from (take c.args.len c.args.d.now) _) _ c.raw_target-raw.ensures (sym c.is_wrong.ensures ∙ c.if-is_wrong.true) in record { alias = pair.0; destination = pair.1.0; ends = pair.1.1 }
+returns-then-is_wrong c =
+    let name = sym c.target_name.ensures ∙ c.in-Is.is in let pair = named-dead c.args.d.now c.args.len c.args.n c.requires _ _ name _ (part-from (take c.args.len c.args.d.now) _) _ c.raw_target-raw.ensures (sym c.is_wrong.ensures ∙ c.if-is_wrong.true) in
+    record {
+      alias = pair.0;
+      destination = pair.1.0;
+      ends = pair.1.1;
+    }
 
 pub transformed-requires : goal.transformed-requires
 transformed-requires c =
@@ -46,4 +58,10 @@ transformed-requires c =
     named-stands c.args.d.now c.args.len c.args.n c.requires _ _ name _ (part-from (take c.args.len c.args.d.now) _) _ c.raw_target-raw.ensures
 
 pub returns : goal.returns
-returns c = let name = sym c.target_name.ensures ∙ c.in-Is.is in let pair = named-told c.args.d.now c.args.len c.args.n c.requires _ _ name _ (part-from (take c.args.len c.args.d.now) _) _ c.raw_target-raw.ensures c.transformed.new.d c.transformed.result _ c.transformed.ensures.strings c.transformed.ensures.ends c.told.ensures in record { alias = pair.0; destination = pair.1.0; ends = pair.1.1 }
+returns c =
+    let name = sym c.target_name.ensures ∙ c.in-Is.is in let pair = named-told c.args.d.now c.args.len c.args.n c.requires _ _ name _ (part-from (take c.args.len c.args.d.now) _) _ c.raw_target-raw.ensures c.transformed.new.d c.transformed.result _ c.transformed.ensures.strings c.transformed.ensures.ends c.told.ensures in
+    record {
+      alias = pair.0;
+      destination = pair.1.0;
+      ends = pair.1.1;
+    }

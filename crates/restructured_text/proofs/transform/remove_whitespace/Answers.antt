@@ -15,7 +15,12 @@ pub shape_of-d-then-d-j : goal.shape_of-d-then-d-j
 shape_of-d-then-d-j c = c.loop-i.invariant.len
 
 pub returns-then-d-j : goal.returns-then-d-j
-returns-then-d-j c = let l = c.loop-i in let pair = ends-bad l.invariant (at-alone _ _ _ l.d l.i (omega arith) (omega arith) c.if-b-eq92.true) in record { answer = pair.0; bytes = pair.1 }
+returns-then-d-j c =
+    let l = c.loop-i in let pair = ends-bad l.invariant (at-alone _ _ _ l.d l.i (omega arith) (omega arith) c.if-b-eq92.true) in
+    record {
+      answer = pair.0;
+      bytes = pair.1;
+    }
 
 pub bounds-d-m : goal.bounds-d-m
 bounds-d-m c = lt-length-set c.loop-i.d c.loop-i.n _ (omega arith)
@@ -29,7 +34,12 @@ pub shape_of-d-else-is_destination_escapable : goal.shape_of-d-else-is_destinati
 shape_of-d-else-is_destination_escapable c = c.loop-i.invariant.len
 
 pub returns-else-is_destination_escapable : goal.returns-else-is_destination_escapable
-returns-else-is_destination_escapable c = let l = c.loop-i in let pair = ends-bad l.invariant (at-wrong _ _ _ l.d l.i (omega arith) c.if-b-eq92.true (sym c.is_destination_escapable.ensures ∙ c.if-is_destination_escapable.false)) in record { answer = pair.0; bytes = pair.1 }
+returns-else-is_destination_escapable c =
+    let l = c.loop-i in let pair = ends-bad l.invariant (at-wrong _ _ _ l.d l.i (omega arith) c.if-b-eq92.true (sym c.is_destination_escapable.ensures ∙ c.if-is_destination_escapable.false)) in
+    record {
+      answer = pair.0;
+      bytes = pair.1;
+    }
 
 pub loop-i-preserved-then-is_multispace : goal.loop-i-preserved-then-is_multispace
 loop-i-preserved-then-is_multispace c =
@@ -45,4 +55,9 @@ pub shape_of-d : goal.shape_of-d
 shape_of-d c = c.loop-i.invariant.len
 
 pub returns : goal.returns
-returns c = let l = c.loop-i in let pair = ends-well l.invariant (at-end _ _ _ l.d l.i (omega arith)) in record { answer = pair.0; bytes = pair.1 }
+returns c =
+    let l = c.loop-i in let pair = ends-well l.invariant (at-end _ _ _ l.d l.i (omega arith)) in
+    record {
+      answer = pair.0;
+      bytes = pair.1;
+    }

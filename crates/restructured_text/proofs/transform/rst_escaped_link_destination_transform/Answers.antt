@@ -13,7 +13,17 @@ pub slice_bounds-unescape-end-in-Text : goal.slice_bounds-unescape-end-in-Text
 slice_bounds-unescape-end-in-Text c = sym (length-take-le _ _ (kept-within _ _ _ (sym c.in-Text.is ∙ c.remove_whitespace.ensures.answer) c.remove_whitespace.ensures.bytes))
 
 pub returns-in-Text : goal.returns-in-Text
-returns-in-Text c = let pair = destination-part _ _ _ _ _ (sym c.in-Text.is ∙ c.remove_whitespace.ensures.answer) c.remove_whitespace.ensures.bytes c.unescape.ensures.answer c.unescape.ensures.bytes in record { answer = pair.0; bytes = pair.1 }
+returns-in-Text c =
+    let pair = destination-part _ _ _ _ _ (sym c.in-Text.is ∙ c.remove_whitespace.ensures.answer) c.remove_whitespace.ensures.bytes c.unescape.ensures.answer c.unescape.ensures.bytes in
+    record {
+      answer = pair.0;
+      bytes = pair.1;
+    }
 
 pub returns-in-Wrong : goal.returns-in-Wrong
-returns-in-Wrong c = let pair = destination-wrong _ _ (sym c.in-Wrong.is ∙ c.remove_whitespace.ensures.answer) c.remove_whitespace.ensures.bytes in record { answer = pair.0; bytes = pair.1 }
+returns-in-Wrong c =
+    let pair = destination-wrong _ _ (sym c.in-Wrong.is ∙ c.remove_whitespace.ensures.answer) c.remove_whitespace.ensures.bytes in
+    record {
+      answer = pair.0;
+      bytes = pair.1;
+    }

@@ -14,7 +14,12 @@ pub shape_of-d-then-d-j : goal.shape_of-d-then-d-j
 shape_of-d-then-d-j c = c.loop-i.invariant.len
 
 pub returns-then-d-j : goal.returns-then-d-j
-returns-then-d-j c = let l = c.loop-i in let pair = ends-bad l.invariant (at-alone _ _ _ l.d l.i (omega arith) (omega arith) c.if-b-eq92.true) in record { answer = pair.0; bytes = pair.1 }
+returns-then-d-j c =
+    let l = c.loop-i in let pair = ends-bad l.invariant (at-alone _ _ _ l.d l.i (omega arith) (omega arith) c.if-b-eq92.true) in
+    record {
+      answer = pair.0;
+      bytes = pair.1;
+    }
 
 pub loop-i-preserved-then-gives_itself : goal.loop-i-preserved-then-gives_itself
 loop-i-preserved-then-gives_itself c =
@@ -30,7 +35,12 @@ pub shape_of-d-else-is_escapable : goal.shape_of-d-else-is_escapable
 shape_of-d-else-is_escapable c = c.loop-i.invariant.len
 
 pub returns-else-is_escapable : goal.returns-else-is_escapable
-returns-else-is_escapable c = let l = c.loop-i in let pair = ends-bad l.invariant (at-wrong _ _ _ l.d l.i (omega arith) c.if-b-eq92.true (sym c.is_escapable.ensures ∙ c.if-is_escapable.false)) in record { answer = pair.0; bytes = pair.1 }
+returns-else-is_escapable c =
+    let l = c.loop-i in let pair = ends-bad l.invariant (at-wrong _ _ _ l.d l.i (omega arith) c.if-b-eq92.true (sym c.is_escapable.ensures ∙ c.if-is_escapable.false)) in
+    record {
+      answer = pair.0;
+      bytes = pair.1;
+    }
 
 pub loop-i-preserved : goal.loop-i-preserved
 loop-i-preserved c =
@@ -41,4 +51,9 @@ pub shape_of-d : goal.shape_of-d
 shape_of-d c = c.loop-i.invariant.len
 
 pub returns : goal.returns
-returns c = let l = c.loop-i in let pair = ends-well l.invariant (at-end _ _ _ l.d l.i (omega arith)) in record { answer = pair.0; bytes = pair.1 }
+returns c =
+    let l = c.loop-i in let pair = ends-well l.invariant (at-end _ _ _ l.d l.i (omega arith)) in
+    record {
+      answer = pair.0;
+      bytes = pair.1;
+    }

@@ -6,4 +6,8 @@ use Rattle.rstlinks.specs.Head.{fields_of}
 use Rattle.rstlinks.proofs.head.read_head.Goals as goal
 
 pub returns : goal.returns
-returns c = record { fields = ap fields_of c.number-v.ensures; small = (omega arith, (omega arith, (omega arith, omega arith))) }
+returns c =
+    record {
+      fields = ap fields_of c.number-v.ensures;
+      small = (omega arith, (omega arith, (omega arith, omega arith)));
+    }

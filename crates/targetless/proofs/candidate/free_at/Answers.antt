@@ -11,7 +11,13 @@ pub returns-then-e-lt3 : goal.returns-then-e-lt3
 returns-then-e-lt3 c = λ r. absurd (omega (arith, r))
 
 pub is_free-requires : goal.is_free-requires
-is_free-requires c = record { place = (c.requires.place, omega (arith, c.blanks_before-k.ensures.0, c.if-e-lt3.false), c.blanks_before-k.ensures); header = subst Headed (part-from c.args.s.now (c.args.e - 3)) (c.is_header.ensures c.if-is_header.true); behind = c.requires.behind; here = c.requires.here }
+is_free-requires c =
+    record {
+      place = (c.requires.place, omega (arith, c.blanks_before-k.ensures.0, c.if-e-lt3.false), c.blanks_before-k.ensures);
+      header = subst Headed (part-from c.args.s.now (c.args.e - 3)) (c.is_header.ensures c.if-is_header.true);
+      behind = c.requires.behind;
+      here = c.requires.here;
+    }
 
 pub returns-then-is_free : goal.returns-then-is_free
 returns-then-is_free c = λ r. c.is_free.ensures c.if-is_free.true

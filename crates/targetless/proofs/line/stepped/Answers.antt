@@ -12,7 +12,13 @@ use Rattle.targetless.proofs.WalkLaws.{front_by, walked-byte, walked-far}
 use Rattle.targetless.proofs.line.stepped.Goals as goal
 
 pub state_at-here-requires : goal.state_at-here-requires
-state_at-here-requires c = record { here = (c.requires.here, ends-none _ c.if-b-eq10.false c.if-b-eq13.false); near = c.requires.walked.0; far = walked-far c.args.s.now c.args.i c.args.w c.requires.walked; stop = c.requires.walked.2 }
+state_at-here-requires c =
+    record {
+      here = (c.requires.here, ends-none _ c.if-b-eq10.false c.if-b-eq13.false);
+      near = c.requires.walked.0;
+      far = walked-far c.args.s.now c.args.i c.args.w c.requires.walked;
+      stop = c.requires.walked.2;
+    }
 
 pub returns : goal.returns
 returns c =

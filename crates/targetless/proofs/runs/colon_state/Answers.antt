@@ -11,7 +11,13 @@ use Rattle.targetless.proofs.runs.colon_state.Goals as goal
 pub target_at-target-requires : goal.target_at-target-requires
 target_at-target-requires c =
     let s = c.args.s.now in
-    let i = c.args.i in record { here = (c.requires.here.0, ap ends_line c.requires.here.1); destination = pass-destination s i c.requires.here.0 (ap ends_line c.requires.here.1) (λ (g : get_or s i 0 ≡ 0x5C). absurd (omega (arith, g, c.requires.here.1))) c.args.near.destination c.requires.near.0; label = c.requires.near.1; size = c.requires.near.6 }
+    let i = c.args.i in
+    record {
+      here = (c.requires.here.0, ap ends_line c.requires.here.1);
+      destination = pass-destination s i c.requires.here.0 (ap ends_line c.requires.here.1) (λ (g : get_or s i 0 ≡ 0x5C). absurd (omega (arith, g, c.requires.here.1))) c.args.near.destination c.requires.near.0;
+      label = c.requires.near.1;
+      size = c.requires.near.6;
+    }
 
 pub returns : goal.returns
 returns c =

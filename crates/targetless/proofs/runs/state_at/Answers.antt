@@ -8,7 +8,13 @@ use Rattle.targetless.proofs.SizeLaws.{sized-byte}
 use Rattle.targetless.proofs.runs.state_at.Goals as goal
 
 pub target_at-target-requires : goal.target_at-target-requires
-target_at-target-requires c = record { here = (c.requires.here.0, c.requires.here.1); destination = pass-destination c.args.s.now c.args.i c.requires.here.0 c.requires.here.1 c.if-b-eq92.false c.args.near.destination c.requires.near.0; label = c.requires.near.1; size = c.requires.near.6 }
+target_at-target-requires c =
+    record {
+      here = (c.requires.here.0, c.requires.here.1);
+      destination = pass-destination c.args.s.now c.args.i c.requires.here.0 c.requires.here.1 c.if-b-eq92.false c.args.near.destination c.requires.near.0;
+      label = c.requires.near.1;
+      size = c.requires.near.6;
+    }
 
 pub overflow_add-result : goal.overflow_add-result
 overflow_add-result c = omega (arith, c.requires.here.0, c.requires.near.6.0, length-drop (c.args.i + 1) c.args.s.now)
