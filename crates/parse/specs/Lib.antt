@@ -38,6 +38,7 @@ pub mod Forms
 pub mod Scan
 pub mod Links
 pub mod Laws
+pub mod Refusal
 pub mod Single
 pub mod Inner
 pub mod Cases

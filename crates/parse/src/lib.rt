@@ -10,6 +10,7 @@ mod buffers;
 mod calm;
 mod forms;
 mod onward;
+mod refusal;
 mod rounds;
 
 ghost use Rattle.std.specs.Prelude.{◌≡◌, ℕ};
@@ -22,6 +23,7 @@ use crate::buffers::{hand_over, is_place};
 use crate::calm::calm;
 use crate::forms::UNTOLD;
 use crate::onward::next_of;
+pub use crate::refusal::Refusal;
 use crate::rounds::{Step, round};
 use restructured_text::Span;
 use rst_bytes::Outside;
