@@ -1,6 +1,7 @@
 -- An accepted document is collected, and its links are those that its records hold: every test that refuses it gives another number
 -- than 0, and records of links in order, with strings no longer than a document, read back as these.
 -- Assumes nothing.
+use Rattle.std.proofs.Common.{Option, Some, None}
 use Prim.Native.Nat.{ℕ, ◌<◌, ◌≤◌}
 use mathlib.Core.Path.{◌≡◌, refl, ap, ◌∙◌}
 use mathlib.Core.List.{List}
@@ -10,8 +11,6 @@ use lib.Dec.{ltb}
 use lib.ListN.{length, take}
 use lib.Seq.{take_at}
 use borrow.Author.Tests.{ltb-false}
-use Rattle.rst_bytes.specs.declared.Outside.{Outside}
-use Rattle.rst_bytes.specs.declared.Outside.TheVariants.{At, Nowhere}
 use Rattle.rst_bytes.specs.Domain.{outside_of}
 use Rattle.rst_bytes.proofs.TestLaws.{by-test}
 use Rattle.parse.specs.Links.{links_of}
@@ -59,10 +58,10 @@ module _ (render : ℕ) (s o : List ℕ) where
       (λ _. read (ltb-false document_len_max (length s) f) (outside_of s))))
     where
       read :
-          length s ≤ document_len_max → (z : Outside)
-          → Accepts (elim z [ At n ↦ refusal 4 n o | Nowhere ↦ answered (collect_all render s (links_of s)) o ])
-      read h (At n) = refusal-not 4 n (omega arith)
-      read h Nowhere = handed-accepts h (collect_all render s (links_of s)) refl
+          length s ≤ document_len_max → (z : Option ℕ)
+          → Accepts (elim z [ Some n ↦ refusal 4 n o | None ↦ answered (collect_all render s (links_of s)) o ])
+      read h (Some n) = refusal-not 4 n (omega arith)
+      read h None = handed-accepts h (collect_all render s (links_of s)) refl
 
 -- the links that its records hold are those of what it collects
 pub accepted-held :

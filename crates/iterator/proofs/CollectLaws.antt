@@ -5,20 +5,22 @@ use Prim.Native.Nat.{ℕ, zero, suc, ◌+◌, ◌*◌, ◌<◌, ◌≤◌}
 use native.Mathlib.Nat.{zero-add}
 use native.Mathlib.Omega.{arith}
 use mathlib.Core.Path.{◌≡◌, refl, sym, ap, subst, ◌∙◌}
-use mathlib.Core.Logic.{◌⊎◌, inl, inr, ⊎_elim}
+use mathlib.Core.Logic.{⊎_elim}
 use mathlib.Core.List.{List, [], ◌∷◌, ◌++◌, map}
-use mathlib.Core.Bool.{Bool, true, false, true≢false}
 use lib.ListN.{length, length-map}
+use Rattle.std.specs.Prelude.{Ok, Err}
+use Rattle.parse.specs.declared.refusal.Refusal.{Refusal}
+use Rattle.parse.specs.declared.refusal.Refusal.TheVariants as refusals
+use Rattle.parse.specs.Refusal.{number_of, bytes_of}
 use borrow.Author.Tests.{lt-ltb, le-ltb}
 use Rattle.rst_bytes.proofs.TestLaws.{lt-or-le}
 use Rattle.iterator.specs.declared.rows.PairRow.{PairRow}
 use Rattle.iterator.specs.declared.rows.LinkRow.{LinkRow}
 use Rattle.iterator.specs.declared.collect.MarkupLinkCollection.{MarkupLinkCollection}
-use Rattle.iterator.specs.declared.collect.Step.{Step}
-use Rattle.iterator.specs.declared.collect.Step.TheVariants.{Next, Refused}
+use Rattle.iterator.specs.declared.collect.Table.TheVariants.{Destinations, Aliases}
 use Rattle.iterator.specs.Collect.{Pair, Item, Collection, Collected, collected, refused, and_then, add_link, add_destination, add_alias, with_link, with_destination, with_alias, definitions}
 use Rattle.iterator.specs.Rows.{pair_rows, link_rows, pairs_of, items_of, pair_of, item_of, put_pair, put_link, destinations_at, aliases_at, PairWithin, LinkWithin, PairsWithin, LinksWithin}
-use Rattle.iterator.specs.Inner.{Held, StepHeld, collection_of, step_of, one_link, one_destination, one_alias, names, if_room, link_added, with_link_row, destination_added, with_destination_row, alias_added, with_alias_row, both_added, with_both_rows}
+use Rattle.iterator.specs.Inner.{Held, Step, StepHeld, collection_of, step_of, one_link, one_name, names, if_room, link_added, with_link_row, name_added, with_name_row, both_added, with_both_rows}
 use Rattle.iterator.proofs.RowsLaws.{length-put-link, length_pairs, pairs-put, links-put, pairs-pair-after, pairs-pair-before, links-pair-after, pairs-link-before, pairs-within-snoc, links-within-snoc, map_snoc}
 
 abbrev collection : List Item → List Pair → List Pair → ℕ → ℕ → Collection
@@ -36,11 +38,9 @@ pairs-length n a t w = length-map (pair_rows n a t) (pair_of w) ∙ length_pairs
 -- one more has room, or not
 module _ {A : Type 0} (n : ℕ) (x y : A) where
   pub room-some : n < 256 → if_room n x y ≡ x
-  unfolding if_room
   room-some h = rw (lt-ltb n 256 h, if_room)
 
   pub room-none : 256 ≤ n → if_room n x y ≡ y
-  unfolding if_room
   room-none h = rw (le-ltb n 256 h, if_room)
 
 -- fewer of those that were numbered are missing from the tables than may be
@@ -112,11 +112,11 @@ module _ (i j : ℕ) (t : List ℕ) (c : MarkupLinkCollection) (x : PairRow) (k 
   aliases-rows₂ : pair_rows c.label2label aliases_at (put_pair t (destinations_at + 4 * c.label2dest) x) ≡ pair_rows c.label2label aliases_at t
   aliases-rows₂ = pairs-pair-before c.label2label aliases_at (destinations_at + 4 * c.label2dest) t x (omega arith)
 
-  destination-collection : (s w : List ℕ) → collection_of s (put_pair t (destinations_at + 4 * c.label2dest) x) w (one_destination c) ≡ with_destination (pair_of w x) (collection_of s t w c)
+  destination-collection : (s w : List ℕ) → collection_of s (put_pair t (destinations_at + 4 * c.label2dest) x) w (one_name Destinations c) ≡ with_destination (pair_of w x) (collection_of s t w c)
   destination-collection s w =
       alike (ap (map (item_of s w)) links-rows₂) (ap (map (pair_of w)) destinations-rows₂ ∙ map_snoc (pair_of w) (pair_rows c.label2dest destinations_at t) x) (ap (map (pair_of w)) aliases-rows₂) refl refl
 
-  destination-held : PairWithin c.fill x → Held i j (put_pair t (destinations_at + 4 * c.label2dest) x) (one_destination c)
+  destination-held : PairWithin c.fill x → Held i j (put_pair t (destinations_at + 4 * c.label2dest) x) (one_name Destinations c)
   destination-held h =
       record {
         tables =
@@ -144,11 +144,11 @@ module _ (i j : ℕ) (t : List ℕ) (c : MarkupLinkCollection) (x : PairRow) (k 
   aliases-rows₃ : pair_rows (c.label2label + 1) aliases_at (put_pair t (aliases_at + 4 * c.label2label) x) ≡ pair_rows c.label2label aliases_at t ++ x ∷ []
   aliases-rows₃ = pairs-put c.label2label aliases_at t x (omega arith)
 
-  alias-collection : (s w : List ℕ) → collection_of s (put_pair t (aliases_at + 4 * c.label2label) x) w (one_alias c) ≡ with_alias (pair_of w x) (collection_of s t w c)
+  alias-collection : (s w : List ℕ) → collection_of s (put_pair t (aliases_at + 4 * c.label2label) x) w (one_name Aliases c) ≡ with_alias (pair_of w x) (collection_of s t w c)
   alias-collection s w =
       alike (ap (map (item_of s w)) links-rows₃) (ap (map (pair_of w)) destinations-rows₃) (ap (map (pair_of w)) aliases-rows₃ ∙ map_snoc (pair_of w) (pair_rows c.label2label aliases_at t) x) refl refl
 
-  alias-held : PairWithin c.fill x → Held i j (put_pair t (aliases_at + 4 * c.label2label) x) (one_alias c)
+  alias-held : PairWithin c.fill x → Held i j (put_pair t (aliases_at + 4 * c.label2label) x) (one_name Aliases c)
   alias-held h =
       record {
         tables =
@@ -168,27 +168,21 @@ module _ (i j : ℕ) (t : List ℕ) (c : MarkupLinkCollection) (x : PairRow) (k 
 -- What is added to a collection, by its test.
 module _ (c : Collection) where
   add-link-some : (x : Item) → length c.links < 256 → add_link x c ≡ collected (with_link x c)
-  unfolding if_room
   add-link-some x h = room-some (length c.links) (collected (with_link x c)) (refused 5) h
 
   add-link-none : (x : Item) → 256 ≤ length c.links → add_link x c ≡ refused 5
-  unfolding if_room
   add-link-none x h = room-none (length c.links) (collected (with_link x c)) (refused 5) h
 
   add-destination-some : (x : Pair) → definitions c < 256 → add_destination x c ≡ collected (with_destination x c)
-  unfolding if_room
   add-destination-some x h = room-some (definitions c) (collected (with_destination x c)) (refused 6) h
 
   add-destination-none : (x : Pair) → 256 ≤ definitions c → add_destination x c ≡ refused 6
-  unfolding if_room
   add-destination-none x h = room-none (definitions c) (collected (with_destination x c)) (refused 6) h
 
   add-alias-some : (x : Pair) → definitions c < 256 → add_alias x c ≡ collected (with_alias x c)
-  unfolding if_room
   add-alias-some x h = room-some (definitions c) (collected (with_alias x c)) (refused 6) h
 
   add-alias-none : (x : Pair) → 256 ≤ definitions c → add_alias x c ≡ refused 6
-  unfolding if_room
   add-alias-none x h = room-none (definitions c) (collected (with_alias x c)) (refused 6) h
 
 -- a step by what it is
@@ -200,21 +194,21 @@ step-held-by n t t' r r' e f h = subst (λ (z : List ℕ). StepHeld n z r) (sym 
 
 -- A step that has room for one more of n, and is then r with the work numbers t', or is refused: what it says, and what it keeps, go by
 -- the two cases.
-module _ (n : ℕ) (t t' : List ℕ) (r : Step) (number : ℕ) where
+module _ (n : ℕ) (t t' : List ℕ) (r : Step) (e : Refusal) where
   room-step :
-      (s w : List ℕ) (z : Collected) → (n < 256 → step_of s t' w r ≡ z) → (256 ≤ n → refused number ≡ z)
-      → step_of s (if_room n t' t) w (if_room n r (Refused number)) ≡ z
+      (s w : List ℕ) (z : Collected) → (n < 256 → step_of s t' w r ≡ z) → (256 ≤ n → refused (number_of e) ≡ z)
+      → step_of s (if_room n t' t) w (if_room n r (Err e)) ≡ z
   room-step s w z f g =
       ⊎_elim
-      (λ h. step_by s w _ _ _ _ (room-some n t' t h) (room-some n r (Refused number) h) ∙ f h)
-      (λ h. step_by s w _ _ _ _ (room-none n t' t h) (room-none n r (Refused number) h) ∙ g h)
+      (λ h. step_by s w _ _ _ _ (room-some n t' t h) (room-some n r (Err e) h) ∙ f h)
+      (λ h. step_by s w _ _ _ _ (room-none n t' t h) (room-none n r (Err e) h) ∙ g h)
       (lt-or-le n 256)
 
-  room-held : (m : ℕ) → (n < 256 → StepHeld m t' r) → StepHeld m (if_room n t' t) (if_room n r (Refused number))
-  room-held m f =
+  room-held : (m : ℕ) → bytes_of e ≡ 0 → (n < 256 → StepHeld m t' r) → StepHeld m (if_room n t' t) (if_room n r (Err e))
+  room-held m z f =
       ⊎_elim
-      (λ h. step-held-by m _ _ _ _ (room-some n t' t h) (room-some n r (Refused number) h) (f h))
-      (λ h. step-held-by m _ _ _ _ (room-none n t' t h) (room-none n r (Refused number) h) tt)
+      (λ h. step-held-by m _ _ _ _ (room-some n t' t h) (room-some n r (Err e) h) (f h))
+      (λ h. step-held-by m _ _ _ _ (room-none n t' t h) (room-none n r (Err e) h) z)
       (lt-or-le n 256)
 
 -- A link more, or 5.
@@ -224,13 +218,13 @@ module _ (t : List ℕ) (c : MarkupLinkCollection) (x : LinkRow) (l : 4096 ≤ l
       → step_of s (with_link_row t c x) w (link_added c) ≡ add_link (item_of s w x) (collection_of s t w c)
   link-step j k s w =
       let n = items-length c.links 0 s t w in
-      room-step c.links t (put_link t (7 * c.links) x) (Next (one_link c)) 5 s w _
+      room-step c.links t (put_link t (7 * c.links) x) (Ok (one_link c)) refusals.Links s w _
       (λ h. ap collected (link-collection 0 j t c x k h l s w) ∙ sym (add-link-some (collection_of s t w c) (item_of s w x) (omega (arith, n))))
       (λ h. sym (add-link-none (collection_of s t w c) (item_of s w x) (omega (arith, n))))
 
   pub link-step-held : Held 1 0 t c → LinkWithin c.at c.fill x → StepHeld c.at (with_link_row t c x) (link_added c)
   link-step-held k v =
-      room-held c.links t (put_link t (7 * c.links) x) (Next (one_link c)) 5 c.at (λ h. (link-held 0 0 t c x k h l v, refl))
+      room-held c.links t (put_link t (7 * c.links) x) (Ok (one_link c)) refusals.Links c.at refl (λ h. (link-held 0 0 t c x k h l v, refl))
 
 -- A name with a destination, or an alias, more, or 6.
 module _ (t : List ℕ) (c : MarkupLinkCollection) (x : PairRow) (l : 4096 ≤ length t) where
@@ -239,28 +233,28 @@ module _ (t : List ℕ) (c : MarkupLinkCollection) (x : PairRow) (l : 4096 ≤ l
 
   pub destination-step :
       (i : ℕ) → Held i 1 t c → (s w : List ℕ)
-      → step_of s (with_destination_row t c x) w (destination_added c) ≡ add_destination (pair_of w x) (collection_of s t w c)
+      → step_of s (with_name_row Destinations t c x) w (name_added Destinations c) ≡ add_destination (pair_of w x) (collection_of s t w c)
   destination-step i k s w =
-      room-step (names c) t (put_pair t (destinations_at + 4 * c.label2dest) x) (Next (one_destination c)) 6 s w _
+      room-step (names c) t (put_pair t (destinations_at + 4 * c.label2dest) x) (Ok (one_name Destinations c)) refusals.Names s w _
       (λ h. ap collected (destination-collection i 0 t c x k h l s w) ∙ sym (add-destination-some (collection_of s t w c) (pair_of w x) (omega (arith, defined s w))))
       (λ h. sym (add-destination-none (collection_of s t w c) (pair_of w x) (omega (arith, defined s w))))
 
-  pub destination-step-held : Held 0 1 t c → PairWithin c.fill x → StepHeld c.at (with_destination_row t c x) (destination_added c)
+  pub destination-step-held : Held 0 1 t c → PairWithin c.fill x → StepHeld c.at (with_name_row Destinations t c x) (name_added Destinations c)
   destination-step-held k v =
-      room-held (names c) t (put_pair t (destinations_at + 4 * c.label2dest) x) (Next (one_destination c)) 6 c.at
+      room-held (names c) t (put_pair t (destinations_at + 4 * c.label2dest) x) (Ok (one_name Destinations c)) refusals.Names c.at refl
       (λ h. (destination-held 0 0 t c x k h l v, refl))
 
   pub alias-step :
       Held 0 1 t c → (s w : List ℕ)
-      → step_of s (with_alias_row t c x) w (alias_added c) ≡ add_alias (pair_of w x) (collection_of s t w c)
+      → step_of s (with_name_row Aliases t c x) w (name_added Aliases c) ≡ add_alias (pair_of w x) (collection_of s t w c)
   alias-step k s w =
-      room-step (names c) t (put_pair t (aliases_at + 4 * c.label2label) x) (Next (one_alias c)) 6 s w _
+      room-step (names c) t (put_pair t (aliases_at + 4 * c.label2label) x) (Ok (one_name Aliases c)) refusals.Names s w _
       (λ h. ap collected (alias-collection 0 0 t c x k h l s w) ∙ sym (add-alias-some (collection_of s t w c) (pair_of w x) (omega (arith, defined s w))))
       (λ h. sym (add-alias-none (collection_of s t w c) (pair_of w x) (omega (arith, defined s w))))
 
-  pub alias-step-held : Held 0 1 t c → PairWithin c.fill x → StepHeld c.at (with_alias_row t c x) (alias_added c)
+  pub alias-step-held : Held 0 1 t c → PairWithin c.fill x → StepHeld c.at (with_name_row Aliases t c x) (name_added Aliases c)
   alias-step-held k v =
-      room-held (names c) t (put_pair t (aliases_at + 4 * c.label2label) x) (Next (one_alias c)) 6 c.at
+      room-held (names c) t (put_pair t (aliases_at + 4 * c.label2label) x) (Ok (one_name Aliases c)) refusals.Names c.at refl
       (λ h. (alias-held 0 0 t c x k h l v, refl))
 
 -- A link and then a name with a destination, or 5, or 6.
@@ -274,7 +268,7 @@ module _ (t : List ℕ) (c : MarkupLinkCollection) (x : LinkRow) (y : PairRow) (
       ≡ and_then (add_link (item_of s w x) (collection_of s t w c)) (add_destination (pair_of w y))
   both-step k v s w =
       let n = items-length c.links 0 s t w in
-      room-step c.links t (with_destination_row (put_link t (7 * c.links) x) c y) (destination_added (one_link c)) 5 s w _
+      room-step c.links t (with_name_row Destinations (put_link t (7 * c.links) x) c y) (name_added Destinations (one_link c)) refusals.Links s w _
       (λ h. destination-step (put_link t (7 * c.links) x) (one_link c) y longer 0 (link-held 0 1 t c x k h l v) s w
       ∙ ap (add_destination (pair_of w y)) (link-collection 0 1 t c x k h l s w)
       ∙ sym (ap (λ (z : Collected). and_then z (add_destination (pair_of w y))) (add-link-some (collection_of s t w c) (item_of s w x) (omega (arith, n)))))
@@ -282,50 +276,5 @@ module _ (t : List ℕ) (c : MarkupLinkCollection) (x : LinkRow) (y : PairRow) (
 
   pub both-step-held : Held 1 1 t c → LinkWithin c.at c.fill x → PairWithin c.fill y → StepHeld c.at (with_both_rows t c x y) (both_added c)
   both-step-held k v u =
-      room-held c.links t (with_destination_row (put_link t (7 * c.links) x) c y) (destination_added (one_link c)) 5 c.at
+      room-held c.links t (with_name_row Destinations (put_link t (7 * c.links) x) c y) (name_added Destinations (one_link c)) refusals.Links c.at refl
       (λ h. destination-step-held (put_link t (7 * c.links) x) (one_link c) y longer (link-held 0 1 t c x k h l v) u)
-
--- what is collected after a step, or else z; and whether there is such
-abbrev next_of : MarkupLinkCollection → Step → MarkupLinkCollection
-next_of z (Next d) = d
-next_of z (Refused number) = z
-
-abbrev is_next : Step → Bool
-is_next (Next d) = true
-is_next (Refused number) = false
-
--- A link was added, and then a name with a destination.
-module _ (t : List ℕ) (c : MarkupLinkCollection) (x : LinkRow) (y : PairRow) (r : Step) (t' : List ℕ) (e : r ≡ link_added c) (f : t' ≡ with_link_row t c x) where
-  next-few : (d : MarkupLinkCollection) → r ≡ Next d → c.links < 256
-  next-few d g = go (lt-or-le c.links 256)
-    where
-      go : (c.links < 256) ⊎ (256 ≤ c.links) → c.links < 256
-      go (inl h) = h
-      go (inr h) = absurd (true≢false (ap is_next (sym g ∙ e ∙ room-none c.links (Next (one_link c)) (Refused 5) h)))
-
-  next_one : (d : MarkupLinkCollection) → r ≡ Next d → d ≡ one_link c
-  next_one d g = ap (next_of c) (sym g ∙ e ∙ room-some c.links (Next (one_link c)) (Refused 5) (next-few d g))
-
-  pub next-names : (d : MarkupLinkCollection) → r ≡ Next d → names d ≡ names c
-  next-names d g = ap names (next_one d g)
-
-  pub both_some :
-      (d : MarkupLinkCollection) (r' : Step) (t'' : List ℕ) → r ≡ Next d → r' ≡ destination_added d → t'' ≡ with_destination_row t' d y
-      → (r' ≡ both_added c) × (t'' ≡ with_both_rows t c x y)
-  both_some d r' t'' g h k = (
-    h ∙ ap destination_added (next_one d g) ∙ sym (room-some c.links (destination_added (one_link c)) (Refused 5) (next-few d g)),
-    k
-        ∙ ap (λ (z : MarkupLinkCollection). with_destination_row t' z y) (next_one d g)
-        ∙ ap (λ (z : List ℕ). with_destination_row z c y) (f ∙ room-some c.links (put_link t (7 * c.links) x) t (next-few d g))
-        ∙ sym (room-some c.links (with_destination_row (put_link t (7 * c.links) x) c y) t (next-few d g)),
-  )
-
-  pub both-none : (n : ℕ) → r ≡ Refused n → (Refused n ≡ both_added c) × (t' ≡ with_both_rows t c x y)
-  both-none n g = go (lt-or-le c.links 256)
-    where
-      go : (c.links < 256) ⊎ (256 ≤ c.links) → (Refused n ≡ both_added c) × (t' ≡ with_both_rows t c x y)
-      go (inl h) = absurd (true≢false (sym (ap is_next (sym g ∙ e ∙ room-some c.links (Next (one_link c)) (Refused 5) h))))
-      go (inr h) = (
-        sym g ∙ e ∙ room-none c.links (Next (one_link c)) (Refused 5) h ∙ sym (room-none c.links (destination_added (one_link c)) (Refused 5) h),
-        f ∙ room-none c.links (put_link t (7 * c.links) x) t h ∙ sym (room-none c.links (with_destination_row (put_link t (7 * c.links) x) c y) t h),
-      )

@@ -3,19 +3,22 @@
 -- Assumes nothing.
 use Prim.Native.Nat.{ℕ, zero, suc, ◌+◌, ◌-◌, ◌*◌, ◌%◌, ◌<◌, ◌≤◌}
 use native.Mathlib.Omega.{arith}
+use Rattle.std.proofs.Common.{Option, Some, None, SomeIff}
+use Rattle.restructured_text.proofs.PartLaws.{part_length, put-length}
 use mathlib.Core.Path.{◌≡◌, refl, sym, ap, subst, ◌∙◌}
-use mathlib.Core.List.{List, [], ◌∷◌}
+use mathlib.Core.List.{List, [], ◌∷◌, ◌++◌}
 use mathlib.Core.Bool.{Bool, true, false}
 use mathlib.Core.Logic.{◌⊎◌, inl, inr}
 use lib.Dec.{eqb}
-use lib.ListN.{length, get_or, take, drop, set, length-set}
-use lib.Seq.{drop-cons, get_or-set_same, get_or-set_other}
+use lib.ListN.{length, get_or, take, set, length-set, replicate}
+use borrow.Rule.Slice.PartMut.{mid_of, post_of, put_mid}
+use lib.Seq.{length-take-le, get_or-set_same, get_or-set_other}
 use borrow.Author.Tests.{eqb-true, eqb-false}
-use Rattle.restructured_text.specs.declared.Span.{Span}
 use Rattle.restructured_text.specs.Strings.{part}
+use Rattle.std.proofs.lemmas.List.{get_or_append_left, get_or-append_right, get_or-take, get_or-replicate, length-replicate}
 use Rattle.iterator.specs.declared.rows.PairRow.{PairRow}
 use Rattle.iterator.specs.declared.rows.LinkRow.{LinkRow}
-use Rattle.iterator.specs.Resolve.{same, none, lookup}
+use Rattle.iterator.specs.Resolve.{none, lookup}
 use Rattle.iterator.specs.Rows.{pair_at, pair_rows, pairs_of, destinations_at, aliases_at, room, put_link}
 use Rattle.iterator.specs.Index.{
   bucket_from,
@@ -27,44 +30,10 @@ use Rattle.iterator.specs.Index.{
   Indexed,
   with_row,
   TablesKept,
-  Unindexed,
 }
 use Rattle.iterator.specs.Inner.{NamesHeld, Indexable}
 use Rattle.iterator.proofs.RowsLaws.{link-above, pairs-agree, pairs-within-at}
-use Rattle.iterator.proofs.ReachLaws.{same-equal}
 use Rattle.iterator.proofs.LookupLaws.{row_other}
-
--- The bucket of the bytes of w from m to end, byte by byte: at place i it is h so far.
-pub record Counting (w : List ℕ) (m end i h : ℕ) : Type 0 where
-  pub inside : i ≤ end
-  pub small : h < 256
-  pub holds : bucket_from h (take (end - i) (drop i w)) ≡ bucket_of (take (end - m) (drop m w))
-
-pub counting-start : (w : List ℕ) (m end : ℕ) → m ≤ end → Counting w m end m 0
-counting-start w m end h = record { inside = h; small = omega arith; holds = refl }
-
-pub counting_more :
-    (w : List ℕ) (m end i h : ℕ) → end ≤ length w → i < end → Counting w m end i h
-    → Counting w m end (i + 1) ((h * 9 + get_or w i 0) % 256)
-unfolding bucket_from
-counting_more w m end i h l g v = record { inside = omega arith; small = omega arith; holds = sym next ∙ v.holds }
-  where
-    next :
-        bucket_from h (take (end - i) (drop i w))
-        ≡ bucket_from ((h * 9 + get_or w i 0) % 256) (take (end - (i + 1)) (drop (i + 1) w))
-    next =
-        let e : end - i ≡ suc (end - (i + 1)) = omega arith in
-        let f : i + 1 ≡ suc i = omega arith in
-        rw (e, drop-cons w i 0 (omega arith), f)
-
-pub counting-end :
-    (a : Span) (w : List ℕ) (i h : ℕ) → Counting w a.start (a.start + a.len) i h → a.start + a.len ≤ i
-    → (h ≡ bucket_of (part a w)) × (h < 256)
-unfolding bucket_from
-counting-end a w i h v g =
-    let e : a.start + a.len - i ≡ 0 = omega arith in
-    let f : a.start + a.len - a.start ≡ a.len = omega arith in
-    (rw (e, f) at v.holds, v.small)
 
 -- there are 256 buckets
 bucket-small : (x : List ℕ) (h : ℕ) → h < 256 → bucket_from h x < 256
@@ -79,14 +48,6 @@ equal_or_not a b = go (eqb a b) refl
     go : (t : Bool) → eqb a b ≡ t → (a ≡ b) ⊎ (a ≡ b → ⊥)
     go true e = inl (eqb-true a b e)
     go false e = inr (eqb-false a b e)
-
--- names of two buckets are two
-differ : (x y : List ℕ) → (bucket_of x ≡ bucket_of y → ⊥) → same x y ≡ false
-differ x y h = go (same x y) refl
-  where
-    go : (t : Bool) → same x y ≡ t → same x y ≡ false
-    go true e = absurd (h (ap bucket_of (same-equal x y e)))
-    go false e = e
 
 -- The last row of a bucket
 
@@ -120,11 +81,16 @@ latest-own f b m e =
 
 -- The index
 
+-- the tables are as they were, and the first i buckets have no row
+record Unindexed (i : ℕ) (t t' : List ℕ) : Type 0 where
+  pub kept : TablesKept t t'
+  pub empty : (b : ℕ) → b < i → get_or t' (lasts_at + b) 0 ≡ 0
+
 -- no row is in it
-index-none : (f : ℕ → ℕ) (t t' : List ℕ) → Unindexed 256 t t' → IndexedBy f 0 t'
-index-none f t t' u =
+index-none : (f : ℕ → ℕ) (k : ℕ) (t t' : List ℕ) → k ≡ 256 → Unindexed k t t' → IndexedBy f 0 t'
+index-none f k t t' g u =
     record {
-      lasts = λ b h. subst (Latest f b 0) (sym (u.empty b h)) (record { before = omega arith; others = λ j g l e. omega arith; its = λ j e. omega arith });
+      lasts = λ b h. subst (Latest f b 0) (sym (u.empty b (omega arith))) (record { before = omega arith; others = λ j g l e. omega arith; its = λ j e. omega arith });
       earlier = λ i h. omega arith;
     }
 
@@ -206,25 +172,26 @@ index-put n m t w x h v =
     (λ k g. link-above t m x k (omega arith))
     v
 
--- The buckets are emptied one after the other.
-pub unindexed-start : (t : List ℕ) → Unindexed 0 t t
-unindexed-start t = record { kept = λ k h. refl; empty = λ b h. omega arith }
+-- n buckets are emptied: zeros are put in their place
+module _ (t zeros : List ℕ) (n : ℕ) (e : zeros ≡ replicate n 0) (h : lasts_at + n ≤ length t) where
+  front : length (take lasts_at t) ≡ lasts_at
+  front = length-take-le lasts_at t (omega arith)
 
-pub unindexed-more :
-    (i : ℕ) (t t' : List ℕ) → lasts_at + i < length t' → Unindexed i t t' → Unindexed (i + 1) t (set t' (lasts_at + i) 0)
-unindexed-more i t t' l u =
-    record {
-      kept = λ k h. get_or-set_other t' (lasts_at + i) k 0 0 (λ e. omega arith) ∙ u.kept k h;
-      empty = λ b h. go b h (equal_or_not b i);
-    }
-  where
-    go : (b : ℕ) → b < i + 1 → (b ≡ i) ⊎ (b ≡ i → ⊥) → get_or (set t' (lasts_at + i) 0) (lasts_at + b) 0 ≡ 0
-    go b h (inl e) = rw e (get_or-set_same t' (lasts_at + i) 0 0 l)
-    go b h (inr ne) =
-        get_or-set_other t' (lasts_at + i) (lasts_at + b) 0 0 (λ e. ne (omega arith)) ∙ u.empty b (omega arith)
+  zeros_long : length zeros ≡ n
+  zeros_long = ap length e ∙ length-replicate n 0
 
-pub unindexed-done : (i : ℕ) (t t' : List ℕ) → 256 ≤ i → i ≤ 256 → Unindexed i t t' → Unindexed 256 t t'
-unindexed-done i t t' h g u = let e : i ≡ 256 = omega arith in subst (λ (k : ℕ). Unindexed k t t') e u
+  emptied : Unindexed n t (put_mid lasts_at n t zeros)
+  emptied =
+      record {
+        kept = λ k g. get_or_append_left (take lasts_at t) _ 0 k (omega (arith, front)) ∙ get_or-take lasts_at t k 0 (omega arith);
+        empty = λ b g.
+            let f : lasts_at + b - lasts_at ≡ b = omega arith in
+            get_or-append_right (take lasts_at t) (zeros ++ post_of lasts_at n t) lasts_at (lasts_at + b) 0 front (omega arith)
+            ∙ ap (λ (k : ℕ). get_or (zeros ++ post_of lasts_at n t) k 0) f
+            ∙ get_or_append_left zeros (post_of lasts_at n t) 0 b (omega (arith, zeros_long))
+            ∙ ap (λ (x : List ℕ). get_or x b 0) e
+            ∙ get_or-replicate n b 0 0 g;
+      }
 
 -- the names stand in the areas while their table is kept
 pub names-kept : (n : ℕ) (t t' w : List ℕ) → NamesHeld n t w → length t' ≡ length t → TablesKept t t' → NamesHeld n t' w
@@ -233,7 +200,7 @@ names-kept n t t' w h l kept =
     pairs-agree n destinations_at t t' (λ k g u. kept k (omega (arith, h.1.0))) in
     ((omega (arith, h.0.0), h.0.1), (h.1.0, rw e h.1.1))
 
--- Of the n names in the rows t₀, none of which is in the index, the first i are put into it.
+-- Of the n names in the rows t₀ the first i are put into the index.
 pub record Indexing (n : ℕ) (t₀ t w : List ℕ) (i : ℕ) : Type 0 where
   pub long : length t ≡ length t₀
   pub inside : i ≤ n
@@ -241,15 +208,19 @@ pub record Indexing (n : ℕ) (t₀ t w : List ℕ) (i : ℕ) : Type 0 where
   pub kept : TablesKept t₀ t
   pub rows : IndexedBy (row_bucket t₀ w) i t
 
+-- none is yet, once zeros are put in the place of the k buckets
 pub indexing-start :
-    (n : ℕ) (t t' w : List ℕ) → NamesHeld n t w → length t' ≡ length t → Unindexed 256 t t' → Indexing n t' t' w 0
-indexing-start n t t' w h l u =
+    (n k : ℕ) (t zeros w : List ℕ) → NamesHeld n t w → k ≡ 256 → zeros ≡ replicate (length (mid_of lasts_at k t)) 0
+    → Indexing n t (put_mid lasts_at k t zeros) w 0
+indexing-start n k t zeros w h g e =
+    let z : zeros ≡ replicate k 0 = e ∙ ap (λ (m : ℕ). replicate m 0) (part_length lasts_at k t (omega (arith, h.0.0))) in
+    let u = emptied t zeros k z (omega (arith, h.0.0)) in
     record {
-      long = refl;
+      long = put-length lasts_at k t zeros (omega (arith, h.0.0)) (zeros_long t zeros k z (omega (arith, h.0.0)));
       inside = omega arith;
-      held = names-kept n t t' w h l u.kept;
-      kept = λ k g. refl;
-      rows = index-none (row_bucket t' w) t t' u;
+      held = h;
+      kept = u.kept;
+      rows = index-none (row_bucket t w) k t (put_mid lasts_at k t zeros) g u;
     }
 
 module _ (n : ℕ) (t₀ t w : List ℕ) (i : ℕ) (v : Indexing n t₀ t w i) where
@@ -278,72 +249,85 @@ module _ (n : ℕ) (t₀ t w : List ℕ) (i : ℕ) (v : Indexing n t₀ t w i) w
         rows = subst (IndexedBy f (i + 1)) (sym e) (index-more f i b t is few long v.rows (bucket-small _ 0 (omega arith)));
       }
 
-  pub indexing-done : (t₁ : List ℕ) → Unindexed 256 t₁ t₀ → n ≤ i → TablesKept t₁ t × Indexed n t w
-  indexing-done t₁ u g =
+  pub indexing-done : n ≤ i → record { kept : TablesKept t₀ t; indexed : Indexed n t w }
+  indexing-done g =
       let e : i ≡ n = omega (arith, v.inside) in
       let x : IndexedBy (row_bucket t₀ w) n t = rw e at v.rows in
-      (λ k l. v.kept k l ∙ u.kept k l, index_agrees (row_bucket t₀ w) (row_bucket t w) n t t same-bucket (λ k l. refl) x)
+      record {
+        kept = v.kept;
+        indexed = index_agrees (row_bucket t₀ w) (row_bucket t w) n t t same-bucket (λ k l. refl) x;
+      }
 
 -- Looking up through the index
 
 -- rows of other buckets are passed
-module _ (t w : List ℕ) (name : Span) where
+module _ (t w name : List ℕ) where
   passes :
-      (d p : ℕ) → ((j : ℕ) → p ≤ j → j < p + d → row_bucket t w j ≡ bucket_of (part name w) → ⊥)
-      → lookup (part name w) (pairs_of (p + d) destinations_at t w) ≡ lookup (part name w) (pairs_of p destinations_at t w)
+      (d p : ℕ) → ((j : ℕ) → p ≤ j → j < p + d → row_bucket t w j ≡ bucket_of name → ⊥)
+      → lookup name (pairs_of (p + d) destinations_at t w) ≡ lookup name (pairs_of p destinations_at t w)
   passes zero p o = let e : p + 0 ≡ p = omega arith in rw e
   passes (suc d) p o =
-      let e : p + suc d - 1 ≡ p + d = omega arith in
-      row_other t w name (p + suc d) (pair_at t (destinations_at + 4 * (p + suc d - 1))) (omega arith) refl
-      (differ _ _ (o (p + suc d - 1) (omega arith) (omega arith)))
-      ∙ ap (λ (k : ℕ). lookup (part name w) (pairs_of k destinations_at t w)) e
+      row_other t w (p + suc d) (p + d) (pair_at t (destinations_at + 4 * (p + d))) refl (omega arith) name
+      (λ e. o (p + d) (omega arith) (omega arith) (ap bucket_of e))
       ∙ passes d p (λ j h g. o j h (omega arith))
 
   passed :
-      (m p : ℕ) → Latest (row_bucket t w) (bucket_of (part name w)) m p
-      → lookup (part name w) (pairs_of m destinations_at t w) ≡ lookup (part name w) (pairs_of p destinations_at t w)
+      (m p : ℕ) → Latest (row_bucket t w) (bucket_of name) m p
+      → lookup name (pairs_of m destinations_at t w) ≡ lookup name (pairs_of p destinations_at t w)
   passed m p v =
       let e : m ≡ p + (m - p) = omega (arith, v.before) in
-      ap (λ (k : ℕ). lookup (part name w) (pairs_of k destinations_at t w)) e
+      ap (λ (k : ℕ). lookup name (pairs_of k destinations_at t w)) e
       ∙ passes (m - p) p (λ j h g. v.others j h (omega (arith, v.before)))
 
+-- A row as the index counts it, from 1, and 0 where there is none
+abbrev pub counted : Option ℕ → ℕ
+counted None = 0
+counted (Some i) = i + 1
+
+-- as it is read
+counted-read : (k : ℕ) (r : Option ℕ) → SomeIff r (1 ≤ k) (k - 1) → k ≡ counted r
+counted-read k None h = omega arith
+counted-read k (Some i) h = omega arith
+
 -- The name has in all n rows what it has in the first i, the last of which is of its bucket.
-pub record Seeking (name : Span) (n : ℕ) (t w : List ℕ) (i : ℕ) : Type 0 where
+pub record Seeking (name : List ℕ) (n : ℕ) (t w : List ℕ) (i : ℕ) : Type 0 where
   pub inside : i ≤ n
-  pub its : (j : ℕ) → i ≡ j + 1 → row_bucket t w j ≡ bucket_of (part name w)
-  pub rest : lookup (part name w) (pairs_of n destinations_at t w) ≡ lookup (part name w) (pairs_of i destinations_at t w)
+  pub its : (j : ℕ) → i ≡ j + 1 → row_bucket t w j ≡ bucket_of name
+  pub rest : lookup name (pairs_of n destinations_at t w) ≡ lookup name (pairs_of i destinations_at t w)
 
-module _ (name : Span) (n : ℕ) (t w : List ℕ) (x : Indexed n t w) where
-  pub seeking-start : (b : ℕ) → b ≡ bucket_of (part name w) → b < 256 → Seeking name n t w (get_or t (lasts_at + b) 0)
-  seeking-start b e h =
-      let v : Latest (row_bucket t w) (bucket_of (part name w)) n (get_or t (lasts_at + b) 0) =
+module _ (name : List ℕ) (n : ℕ) (t w : List ℕ) (x : Indexed n t w) where
+  pub seeking-start :
+      (b : ℕ) → b ≡ bucket_of name → b < 256 → (r : Option ℕ)
+      → SomeIff r (1 ≤ get_or t (lasts_at + b) 0) (get_or t (lasts_at + b) 0 - 1)
+      → Seeking name n t w (counted r)
+  seeking-start b e h r f =
+      let v : Latest (row_bucket t w) (bucket_of name) n (get_or t (lasts_at + b) 0) =
       subst (λ (c : ℕ). Latest (row_bucket t w) c n (get_or t (lasts_at + b) 0)) e (x.lasts b h) in
-      record { inside = v.before; its = v.its; rest = passed t w name n _ v }
+      subst (Seeking name n t w) (counted-read _ r f) (record { inside = v.before; its = v.its; rest = passed t w name n _ v })
 
-  module _ (i : ℕ) (v : Seeking name n t w i) (some : 0 < i) where
-    -- the last row of its bucket before row i - 1
-    earlier-latest : Latest (row_bucket t w) (bucket_of (part name w)) (i - 1) (get_or t (aliases_at + (i - 1)) 0)
+  -- row j is the last of the first i
+  module _ (i j : ℕ) (h : i ≡ j + 1) (v : Seeking name n t w i) where
+    -- the last row of its bucket before it
+    earlier-latest : Latest (row_bucket t w) (bucket_of name) j (get_or t (aliases_at + j) 0)
     earlier-latest =
         subst
-        (λ (c : ℕ). Latest (row_bucket t w) c (i - 1) (get_or t (aliases_at + (i - 1)) 0))
-        (v.its (i - 1) (omega arith))
-        (x.earlier (i - 1) (omega (arith, v.inside)))
-
-    pub earlier-less : get_or t (aliases_at + (i - 1)) 0 < i
-    earlier-less = omega (arith, earlier-latest.before)
+        (λ (c : ℕ). Latest (row_bucket t w) c j (get_or t (aliases_at + j) 0))
+        (v.its j h)
+        (x.earlier j (omega (arith, v.inside)))
 
     pub seeking-more :
-        (r : PairRow) → r ≡ pair_at t (destinations_at + 4 * (i - 1)) → same (part r.name w) (part name w) ≡ false
-        → Seeking name n t w (get_or t (aliases_at + (i - 1)) 0)
-    seeking-more r e f =
-        record {
+        (r : PairRow) → r ≡ pair_at t (destinations_at + 4 * j) → (part r.name w ≡ name → ⊥) → (r' : Option ℕ)
+        → SomeIff r' (1 ≤ get_or t (aliases_at + j) 0) (get_or t (aliases_at + j) 0 - 1)
+        → Seeking name n t w (counted r')
+    seeking-more r e f r' g =
+        subst (Seeking name n t w) (counted-read _ r' g) (record {
           inside = omega (arith, v.inside, earlier-latest.before);
           its = earlier-latest.its;
-          rest = v.rest ∙ row_other t w name i r some e f ∙ passed t w name (i - 1) _ earlier-latest;
-        }
+          rest = v.rest ∙ row_other t w i j r e h name f ∙ passed t w name j _ earlier-latest;
+        })
 
 pub seeking-end :
-    (name : Span) (n : ℕ) (t w : List ℕ) (i : ℕ) → Seeking name n t w i → i ≤ 0
-    → lookup (part name w) (pairs_of n destinations_at t w) ≡ none
+    (name : List ℕ) (n : ℕ) (t w : List ℕ) (i : ℕ) → Seeking name n t w i → i ≡ 0
+    → none ≡ lookup name (pairs_of n destinations_at t w)
 unfolding lookup pair_rows
-seeking-end name n t w i v h = let e : i ≡ 0 = omega arith in rw e at v.rest
+seeking-end name n t w i v e = sym (rw e at v.rest)

@@ -1,16 +1,14 @@
 -- The rows of looking up a name, from the last row back: what the rows up to one say goes by that row and by those before it.
 -- Assumes nothing.
-use Prim.Native.Nat.{ℕ, zero, suc, ◌+◌, ◌-◌, ◌*◌, ◌<◌, ◌≤◌}
-use native.Mathlib.Omega.{arith}
-use mathlib.Core.Path.{◌≡◌, refl, ap, sym, subst, subst⁻¹, ◌∙◌}
-use mathlib.Core.List.{List, [], ◌∷◌, ◌++◌, map}
-use mathlib.Core.Bool.{true, false}
-use Rattle.restructured_text.specs.declared.Span.{Span}
+use Rattle.std.proofs.Common.{ℕ, zero, suc, ◌+◌, ◌*◌, ◌≤◌, ◌≡◌, refl, ap, sym, subst, ◌∙◌, arith, List, [], ◌∷◌, ◌++◌, map, length}
+use mathlib.Core.Path.{subst⁻¹}
 use Rattle.restructured_text.specs.Strings.{part}
 use Rattle.iterator.specs.declared.rows.PairRow.{PairRow}
 use Rattle.iterator.specs.Resolve.{same, has, none, lookup}
-use Rattle.iterator.specs.Rows.{pair_at, pair_rows, pair_of, pairs_of, destinations_at, room, PairWithin, PairsWithin}
+use Rattle.iterator.specs.Rows.{pair_at, pair_rows, pair_of, pairs_of, destinations_at, room, SpanWithin, PairWithin}
+use Rattle.iterator.specs.Inner.{NamesHeld}
 use Rattle.iterator.proofs.RowsLaws.{pairs-snoc, pairs-within-at, map_snoc}
+use Rattle.iterator.proofs.NamesLaws.{same_refl, same-other}
 use Rattle.iterator.proofs.ResolveLaws.{lookup-here, lookup-past, lookup-fewer}
 
 -- one row more that is stored
@@ -22,34 +20,40 @@ one_more t w n =
     ap (map (pair_of w)) (pairs-snoc n destinations_at t)
     ∙ map_snoc (pair_of w) (pair_rows n destinations_at t) (pair_at t (destinations_at + 4 * n))
 
--- Looking up, from the last row back: of the first i rows the last is r
-module _ (t w : List ℕ) (name : Span) (i : ℕ) (r : PairRow) where
-  last_row :
-      0 < i → r ≡ pair_at t (destinations_at + 4 * (i - 1))
-      → pairs_of i destinations_at t w ≡ pairs_of (i - 1) destinations_at t w ++ pair_of w r ∷ []
-  last_row h e =
-      let f : i ≡ (i - 1) + 1 = omega arith in
-      ap (λ n. pairs_of n destinations_at t w) f
-      ∙ one_more t w (i - 1)
-      ∙ ap (λ (x : PairRow). pairs_of (i - 1) destinations_at t w ++ pair_of w x ∷ []) (sym e)
+-- Looking up, from the last row back: of the first i rows the last is row j, which is r
+module _ (t w : List ℕ) (i j : ℕ) (r : PairRow) (e : r ≡ pair_at t (destinations_at + 4 * j)) (h : i ≡ j + 1) where
+  last_row : pairs_of i destinations_at t w ≡ pairs_of j destinations_at t w ++ pair_of w r ∷ []
+  last_row =
+      ap (λ (n : ℕ). pairs_of n destinations_at t w) h
+      ∙ one_more t w j
+      ∙ ap (λ (x : PairRow). pairs_of j destinations_at t w ++ pair_of w x ∷ []) (sym e)
 
-  pub row_same :
-      0 < i → r ≡ pair_at t (destinations_at + 4 * (i - 1)) → same (part r.name w) (part name w) ≡ true
-      → lookup (part name w) (pairs_of i destinations_at t w) ≡ has (part r.to w)
-  row_same h e f =
-      ap (lookup (part name w)) (last_row h e) ∙ lookup-here (part name w) (pair_of w r) (pairs_of (i - 1) destinations_at t w) f
+  row_same : (name : List ℕ) → part r.name w ≡ name → lookup name (pairs_of i destinations_at t w) ≡ has (part r.to w)
+  row_same name f =
+      ap (lookup name) last_row
+      ∙ lookup-here name (pair_of w r) (pairs_of j destinations_at t w) (ap (λ (x : List ℕ). same x name) f ∙ same_refl name)
 
   pub row_other :
-      0 < i → r ≡ pair_at t (destinations_at + 4 * (i - 1)) → same (part r.name w) (part name w) ≡ false
-      → lookup (part name w) (pairs_of i destinations_at t w) ≡ lookup (part name w) (pairs_of (i - 1) destinations_at t w)
-  row_other h e f =
-      ap (lookup (part name w)) (last_row h e) ∙ lookup-past (part name w) (pair_of w r) (pairs_of (i - 1) destinations_at t w) f
+      (name : List ℕ) → (part r.name w ≡ name → ⊥)
+      → lookup name (pairs_of i destinations_at t w) ≡ lookup name (pairs_of j destinations_at t w)
+  row_other name f =
+      ap (lookup name) last_row ∙ lookup-past name (pair_of w r) (pairs_of j destinations_at t w) (same-other _ _ f)
 
--- a row that is looked at, with its strings in the work bytes
-pub row_within :
-    (n : ℕ) (t : List ℕ) (i : ℕ) (r : PairRow) → 0 < i → i ≤ n → r ≡ pair_at t (destinations_at + 4 * (i - 1))
-    → PairsWithin room (pair_rows n destinations_at t) → PairWithin room r
-row_within n t i r h g e b = subst⁻¹ (PairWithin room) e (pairs-within-at room n destinations_at (i - 1) t (omega arith) b)
+  -- n rows are held
+  module _ (n : ℕ) (held : NamesHeld n t w) (inside : i ≤ n) where
+    row_within : PairWithin room r
+    row_within = subst⁻¹ (PairWithin room) e (pairs-within-at room n destinations_at j t (omega arith) held.1.1)
+
+    -- the name of the row stands in the work bytes
+    pub row-inside : r.name.start + r.name.len ≤ length w
+    row-inside = omega (arith, row_within.0.0, held.0.1)
+
+    -- it is the name that is looked up, and no row behind it has that
+    pub row-found :
+        (name : List ℕ) → part r.name w ≡ name
+        → lookup name (pairs_of n destinations_at t w) ≡ lookup name (pairs_of i destinations_at t w)
+        → record { found : has (part r.to w) ≡ lookup name (pairs_of n destinations_at t w); within : SpanWithin room r.to }
+    row-found name f g = record { found = sym (g ∙ row_same name f); within = row_within.1 }
 
 -- a name that none of n rows has, none of the first m has, where the others are k
 pub none-fewer :

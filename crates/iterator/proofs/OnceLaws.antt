@@ -17,7 +17,8 @@ use mathlib.Core.Logic.{◌⊎◌, inl, inr}
 use Rattle.iterator.specs.Collect.{Pair, pair}
 use Rattle.iterator.specs.Resolve.{same, Destination, has, none, lookup, resolve_aliases}
 use Rattle.iterator.specs.Reach.{Has, Reaches, stands, follows, once}
-use Rattle.iterator.proofs.ReachLaws.{same_refl, same-equal, has_one, not_none, sound, complete}
+use Rattle.iterator.proofs.NamesLaws.{same_refl, same-equal}
+use Rattle.iterator.proofs.ReachLaws.{has_one, not_none, sound, complete}
 
 -- What a name has, of one pair and the rest
 module _ (name : List ℕ) (x : Pair) (rest : List Pair) where

@@ -14,11 +14,9 @@ use mathlib.Core.List.{
   append_assoc,
   Memᴰ,
 }
-use mathlib.Core.Bool.{Bool, true, false, ◌&&◌}
+use mathlib.Core.Bool.{Bool, true, false}
 use mathlib.Core.Logic.{◌⊎◌, inl, inr, ⊎_elim}
-use lib.Dec.{eqb}
 use lib.ListN.{length, length-append}
-use borrow.Author.Tests.{eqb-true, eq-eqb}
 use Rattle.iterator.specs.Collect.{Pair, pair}
 use Rattle.iterator.specs.Resolve.{
   same,
@@ -34,24 +32,8 @@ use Rattle.iterator.specs.Resolve.{
   resolve_aliases,
 }
 use Rattle.iterator.specs.Reach.{Has, Reaches, stands, follows, left_from, left_over}
+use Rattle.iterator.proofs.NamesLaws.{same_refl, same-equal}
 use Rattle.iterator.proofs.ResolveLaws.{lookup-here, lookup-past}
-
--- Names are the same if they are equal.
-pub same_refl : (x : List ℕ) → same x x ≡ true
-unfolding same
-same_refl [] = refl
-same_refl (b ∷ x) = rw (eq-eqb b b refl) (same_refl x)
-
-pub same-equal : (x y : List ℕ) → same x y ≡ true → x ≡ y
-unfolding same
-same-equal [] [] e = refl
-same-equal [] (c ∷ y) e = absurd (let z : ◌≡◌ {A = ℕ} 0 1 = cc in omega arith)
-same-equal (b ∷ x) [] e = absurd (let z : ◌≡◌ {A = ℕ} 0 1 = cc in omega arith)
-same-equal (b ∷ x) (c ∷ y) e = go (eqb b c) refl e (same-equal x y)
-  where
-    go : (t : Bool) → eqb b c ≡ t → (t && same x y) ≡ true → (same x y ≡ true → x ≡ y) → b ∷ x ≡ c ∷ y
-    go true f g ih = rw (eqb-true b c f, ih g)
-    go false f g ih = absurd (let z : ◌≡◌ {A = ℕ} 0 1 = cc in omega arith)
 
 -- a name has one destination, or none
 pub has_one : {d e : List ℕ} → has d ≡ has e → d ≡ e

@@ -2,57 +2,39 @@
 -- rest of the document; what is added then is what collecting adds, and what it knows of backticks is true of what is read next; and where
 -- nothing is found, all is collected.
 -- Assumes nothing.
+use Rattle.std.proofs.Common.{Result}
+use Rattle.restructured_text.specs.declared.ParseError.{ParseError}
+use Rattle.restructured_text.specs.declared.ParseError.TheVariants.{NotFound, NoRoom}
 use Prim.Native.Nat.{ℕ, ◌+◌, ◌-◌, ◌<◌, ◌≤◌}
 use native.Mathlib.Omega.{arith}
-use mathlib.Core.Path.{◌≡◌, refl, sym, ap, subst, ◌∙◌}
+use mathlib.Core.Path.{◌≡◌, refl, sym, ap, ap₂, subst, subst⁻¹, ◌∙◌}
 use mathlib.Core.List.{List, ◌++◌, append-nil}
 use lib.ListN.{length, take, drop, length-drop, drop_of_length-le}
 use lib.Seq.{drop_at, drop-drop, length-take-le}
 use borrow.Rule.Slice.PartMut.{put_mid, post_of}
+use Rattle.std.specs.Prelude.{Ok, Err}
 use Rattle.rst_bytes.proofs.Lists.{part-from}
+use Rattle.restructured_text.specs.Strings.{part}
 use Rattle.restructured_text.proofs.PartLaws.{put-before}
 use Rattle.parse.specs.declared.Link.{Link}
-use Rattle.parse.specs.declared.Link.TheVariants.{Text2Dest, TextLabel2Dest, Text2Label, Label2Dest, Label2Label}
 use Rattle.parse.specs.declared.Known.{Known}
-use Rattle.parse.specs.declared.Scan.{Scan}
-use Rattle.parse.specs.declared.Scan.TheVariants.{Found, NotFound, NoRoom}
-use Rattle.parse.specs.Link.{Scanned, found, nothing, no_room, link_of, scanned_of, Ends, lent}
+use Rattle.parse.specs.declared.refusal.Refusal.{Refusal}
+use Rattle.parse.specs.Link.{Kind, Scanned, found, link_of, scanned_of, Ends, lent}
 use Rattle.parse.specs.Forms.{rst}
 use Rattle.parse.specs.Scan.{scan_of}
-use Rattle.parse.specs.Inner.{link_end, Holds, TrueBehind}
+use Rattle.parse.specs.Inner.{first_of, second_of, link_end, Holds, TrueBehind, nothing_known}
 use Rattle.parse.specs.Links.{Placed, links_from, links_by, links_of}
 use Rattle.parse.proofs.ScanLaws.{rst-consuming, scan-of-within, scan-of-room}
 use Rattle.parse.proofs.LinksLaws.{links-equation}
 use Rattle.parse.proofs.RoundLaws.{lent-enough}
+use Rattle.parse.proofs.OnwardLaws.{holds-nothing}
 use Rattle.iterator.specs.declared.collect.MarkupLinkCollection.{MarkupLinkCollection}
-use Rattle.iterator.specs.declared.collect.Step.{Step}
-use Rattle.iterator.specs.declared.collect.Step.TheVariants.{Next, Refused}
 use Rattle.iterator.specs.Collect.{Collection, Collected, collected, refused, collect_from, collect_all}
 use Rattle.iterator.specs.Rows.{link_rows, pair_rows, destinations_at, aliases_at, room, LinksWithin, PairsWithin}
-use Rattle.iterator.specs.Inner.{Held, StepHeld, collection_of, step_of, Roomy, scanned_bytes, Scannable, add_scanned, AddsScanned, nothing_yet}
+use Rattle.iterator.specs.Inner.{Held, collection_of, Roomy, Unmarked, nothing_yet, kind_of, skipped_by, consumed_by, Scannable, add_scanned, AddsScanned, Collects}
 use Rattle.iterator.proofs.RowsLaws.{pairs-kept, items_kept}
 use Rattle.iterator.proofs.CollectLaws.{alike}
-
--- a scan that found a link
-abbrev IsFound : Scanned → Type 0
-IsFound (found kind x y m n) = Unit {0}
-IsFound nothing = ⊥
-IsFound no_room = ⊥
-
-link-found : (x : Link) (w : List ℕ) → IsFound (link_of x w)
-link-found (Text2Dest a b m n) w = tt
-link-found (TextLabel2Dest a b m n) w = tt
-link-found (Text2Label a b m n) w = tt
-link-found (Label2Dest a b m n) w = tt
-link-found (Label2Label a b m n) w = tt
-
--- the bytes that a scan has read end where the link does
-link-bytes : (x : Link) (w : List ℕ) → scanned_bytes (link_of x w) ≡ link_end x
-link-bytes (Text2Dest a b m n) w = refl
-link-bytes (TextLabel2Dest a b m n) w = refl
-link-bytes (Text2Label a b m n) w = refl
-link-bytes (Label2Dest a b m n) w = refl
-link-bytes (Label2Label a b m n) w = refl
+use Rattle.iterator.proofs.ScannedLaws.{link-is, end_is}
 
 -- what is collected goes on behind a link, or is refused
 abbrev goes_on : ℕ → List ℕ → List Placed → Collected → Collected
@@ -67,22 +49,12 @@ goes_by render s rest (refused number) = refl
 
 -- the first link is added, and then the others
 adds-first :
-    (render n : ℕ) (s p : List ℕ) (c : Collection) (z : Scanned) → IsFound z
-    → collect_from render s c (links_by rst n p z)
-    ≡ goes_on render s (links_from rst 0 (n + scanned_bytes z) (drop (scanned_bytes z) p)) (add_scanned render s n c z)
+    (render n : ℕ) (s p : List ℕ) (c : Collection) (kind : Kind) (x y : List ℕ) (m k : ℕ)
+    → collect_from render s c (links_by rst n p (found kind x y m k))
+    ≡ goes_on render s (links_from rst 0 (n + (m + k)) (drop (m + k) p)) (add_scanned render s n c (found kind x y m k))
 unfolding collect_from
-adds-first render n s p c (found kind x y m k) h =
+adds-first render n s p c kind x y m k =
     goes_by render s (links_from rst 0 (n + (m + k)) (drop (m + k) p)) (add_scanned render s n c (found kind x y m k))
-adds-first render n s p c nothing h = absurd h
-adds-first render n s p c no_room h = absurd h
-
--- it has at least one byte, and ends in the text
-inside-by : (p : List ℕ) (z : Scanned) → scan_of p ≡ z → IsFound z → (0 < scanned_bytes z) × (scanned_bytes z ≤ length p)
-inside-by p (found kind x y m n) e h =
-    let v = scan-of-within p kind x y m n e in
-    (omega (arith, v.0), v.1)
-inside-by p nothing e h = absurd h
-inside-by p no_room e h = absurd h
 
 -- all that is behind place a is replaced by y
 put_rest : (a : ℕ) (d y : List ℕ) → a ≤ length d → drop a (put_mid a (length d - a) d y) ≡ y
@@ -93,7 +65,7 @@ put_rest a d y h =
 
 -- Document s, work numbers t and work bytes w before a scan; its answer r, and y, what it left in the bytes that it was lent.
 module _ (s t w : List ℕ) (c : MarkupLinkCollection) (k : Held 0 0 t c) (h : c.at ≤ length s) (l : length s ≤ 16384) (q : Roomy t w) where
-  pub filled : c.fill + 16384 ≤ room
+  filled : c.fill + 16384 ≤ room
   filled = omega (arith, k.filled, k.inside, k.references-few, k.targets-few, k.tables.links-few, k.tables.names-few)
 
   -- what is collected, with what the scanner left behind it
@@ -107,10 +79,11 @@ module _ (s t w : List ℕ) (c : MarkupLinkCollection) (k : Held 0 0 t c) (h : c
       refl
       refl
 
-  module _ (r : Scan) (y : List ℕ) (e : scanned_of r y ≡ lent (take (length s - c.at) (drop c.at s)) (take (length w - c.fill) (drop c.fill w)) (scan_of (take (length s - c.at) (drop c.at s)))) where
-    abbrev w' : List ℕ
-    w' = put_mid c.fill (length w - c.fill) w y
+  -- what it left stands behind the bytes that are taken
+  scanned-rest : (y : List ℕ) → drop c.fill (put_mid c.fill (length w - c.fill) w y) ≡ y
+  scanned-rest y = put_rest c.fill w y (omega (arith, filled, q.1))
 
+  module _ (r : Result Link ParseError) (y : List ℕ) (e : scanned_of r y ≡ lent (take (length s - c.at) (drop c.at s)) (take (length w - c.fill) (drop c.fill w)) (scan_of (take (length s - c.at) (drop c.at s)))) where
     scans : scanned_of r y ≡ scan_of (drop c.at s)
     scans =
         e
@@ -121,105 +94,166 @@ module _ (s t w : List ℕ) (c : MarkupLinkCollection) (k : Held 0 0 t c) (h : c
         long =
             omega (arith, ap length (part-from s c.at), ap length (part-from w c.fill), length-drop c.at s, length-drop c.fill w, filled, q.1)
 
-    rest : drop c.fill w' ≡ y
-    rest = put_rest c.fill w y (omega (arith, filled, q.1))
+    -- the room is never too short
+    pub room-always : r ≡ Err NoRoom → ⊥
+    room-always f = scan-of-room (drop c.at s) (sym scans ∙ ap (λ (z : Result Link ParseError). scanned_of z y) f)
 
-    -- where a link was found
-    module _ (x : Link) (f : r ≡ Found x) where
-      link : link_of x (drop c.fill w') ≡ scan_of (drop c.at s)
-      link = ap (link_of x) rest ∙ ap (λ (z : Scan). scanned_of z y) (sym f) ∙ scans
+-- The document s is read up to place c.at, with work numbers t and work bytes w: what all links give is what those behind it add to c.
+pub record Reading (render : ℕ) (s t w : List ℕ) (c : MarkupLinkCollection) : Type 0 where
+  pub short : length s ≤ 16384
+  pub roomy : Roomy t w
+  pub held : Held 0 0 t c
+  pub inside : c.at ≤ length s
+  pub goes :
+      collect_all render s (links_of s) ≡ collect_from render s (collection_of s t w c) (links_from rst 0 c.at (drop c.at s))
 
-      pub inside : (0 < scanned_bytes (link_of x (drop c.fill w'))) × (c.at + scanned_bytes (link_of x (drop c.fill w')) ≤ length s)
-      inside =
-          let v = inside-by (drop c.at s) (link_of x (drop c.fill w')) (sym link) (link-found x (drop c.fill w')) in
-          (v.0, omega (arith, v.1, length-drop c.at s))
+-- at the front of the document, nothing is collected
+pub reading-starts :
+    (render : ℕ) (s t w : List ℕ) (c : MarkupLinkCollection) → length s ≤ 16384 → Roomy t w → c ≡ nothing_yet → Reading render s t w c
+unfolding links_of link_rows pair_rows LinksWithin PairsWithin
+reading-starts render s t w c l q e =
+    subst⁻¹
+    (Reading render s t w)
+    e
+    (record {
+      short = l;
+      roomy = q;
+      held =
+          record {
+            tables =
+                record { links-few = omega arith; names-few = omega arith; links-within = tt; destinations-within = tt; aliases-within = tt };
+            inside = omega arith;
+            references-few = omega arith;
+            targets-few = omega arith;
+            filled = omega arith;
+          };
+      inside = omega arith;
+      goes = refl;
+    })
 
-      pub scannable : length w' ≡ length w → Ends r → Scannable t w' x c
-      scannable g v = ((q.0, omega (arith, g, q.1)), (k, (subst Ends f v, omega (arith, inside.1))))
+pub starts : (c : MarkupLinkCollection) → (c.at ≡ 0) × ((c.fill ≡ 0) × ((c.links ≡ 0) × ((c.label2dest ≡ 0) × ((c.label2label ≡ 0) × ((c.counters.references ≡ 0) × (c.counters.targets ≡ 0)))))) → c ≡ nothing_yet
+starts c e = λ i. record { at = e.0 i; fill = e.1.0 i; links = e.1.1.0 i; label2dest = e.1.1.1.0 i; label2label = e.1.1.1.1.0 i; counters = record { references = e.1.1.1.1.1.0 i; targets = e.1.1.1.1.1.1 i } }
 
-      -- what is known behind it is true of what is read next, with the marks v that were lent from there on
-      pub next_known :
-          (known : Known) (m v : List ℕ) → length s ≤ length m → TrueBehind (take (length s - c.at) (drop c.at s)) v known r
-          → (n : ℕ) → n ≡ c.at + scanned_bytes (link_of x (drop c.fill w'))
-          → Holds 0 known (drop n (put_mid c.at (length m - c.at) m v)) (drop n s)
-      next_known known m v u b n g =
-          subst (λ (z : List ℕ). Holds 0 known z (drop n s))
-          (ap (drop (link_end x)) (sym (put_rest c.at m v (omega (arith, h, u)))) ∙ drop-drop (link_end x) c.at (put_mid c.at (length m - c.at) m v) ∙ ap (λ (z : ℕ). drop z (put_mid c.at (length m - c.at) m v)) ends)
-          (subst (Holds 0 known (drop (link_end x) v))
-          (ap (drop (link_end x)) (part-from s c.at) ∙ drop-drop (link_end x) c.at s ∙ ap (λ (z : ℕ). drop z s) ends)
-          (subst (TrueBehind (take (length s - c.at) (drop c.at s)) v known) f b))
-        where
-          ends : c.at + link_end x ≡ n
-          ends = ap (λ (z : ℕ). c.at + z) (sym (link-bytes x (drop c.fill w'))) ∙ sym g
+-- there nothing is known, and no place is marked
+pub known-starts :
+    (s marks : List ℕ) (n : ℕ) (k : Known) → n ≡ 0 → k ≡ nothing_known → Unmarked s marks
+    → Holds 0 k (drop n marks) (drop n s)
+known-starts s marks n k e f u =
+    subst⁻¹ (λ (z : Known). Holds 0 z (drop n marks) (drop n s)) f
+    (subst⁻¹
+    (λ (k : ℕ). Holds 0 nothing_known (drop k marks) (drop k s))
+    e
+    (subst⁻¹ (λ (z : List ℕ). Holds 0 nothing_known z s) u.1 (holds-nothing s 0 (length marks))))
 
-      -- what all links of the rest add, by what this one adds
-      goes :
-          (render : ℕ)
-          → collect_from render s (collection_of s t w c) (links_from rst 0 c.at (drop c.at s))
-          ≡ goes_on render s
-          (links_from rst 0 (c.at + scanned_bytes (link_of x (drop c.fill w'))) (drop (c.at + scanned_bytes (link_of x (drop c.fill w'))) s))
-          (add_scanned render s c.at (collection_of s t w' c) (link_of x (drop c.fill w')))
-      unfolding scan_of
-      goes render =
-          ap (collect_from render s (collection_of s t w c)) (links-equation rst rst-consuming c.at (drop c.at s) ∙ ap (links_by rst c.at (drop c.at s)) (sym link))
-          ∙ adds-first render c.at s (drop c.at s) (collection_of s t w c) (link_of x (drop c.fill w')) (link-found x (drop c.fill w'))
-          ∙ ap (λ (z : List ℕ). goes_on render s (links_from rst 0 (c.at + scanned_bytes (link_of x (drop c.fill w'))) z) (add_scanned render s c.at (collection_of s t w c) (link_of x (drop c.fill w')))) (drop-drop (scanned_bytes (link_of x (drop c.fill w'))) c.at s)
-          ∙ ap (λ (z : Collection). goes_on render s (links_from rst 0 (c.at + scanned_bytes (link_of x (drop c.fill w'))) (drop (c.at + scanned_bytes (link_of x (drop c.fill w'))) s)) (add_scanned render s c.at z (link_of x (drop c.fill w')))) (sym (scanned-kept y))
+-- Before a scan.
+module _ (render : ℕ) (s t w : List ℕ) (c : MarkupLinkCollection) (v : Reading render s t w c) where
+  -- at the end of the document, all is collected
+  pub reading-ends : length s ≤ c.at → Collects render s t w (Ok c)
+  unfolding collect_from links_from
+  reading-ends h =
+      record {
+        step =
+            sym (ap (λ (z : List ℕ). collect_from render s (collection_of s t w c) (links_from rst 0 c.at z)) (drop_of_length-le s {i = c.at} h))
+            ∙ sym v.goes;
+        held = (v.held, v.inside);
+      }
 
-      module _ (render : ℕ) (t'' w'' : List ℕ) (r₂ : Step) (u : AddsScanned render c x t w' t'' w'' r₂) (g : StepHeld (c.at + scanned_bytes (link_of x (drop c.fill w'))) t'' r₂) where
-        pub next-held : (d : MarkupLinkCollection) → r₂ ≡ Next d → Held 0 0 t'' d × (d.at ≡ c.at + scanned_bytes (link_of x (drop c.fill w')))
-        next-held d v = subst (StepHeld (c.at + scanned_bytes (link_of x (drop c.fill w'))) t'') v g
+  -- Its answer r, and y, what it left in the bytes that it was lent.
+  module _ (r : Result Link ParseError) (y : List ℕ) (e : scanned_of r y ≡ lent (take (length s - c.at) (drop c.at s)) (take (length w - c.fill) (drop c.fill w)) (scan_of (take (length s - c.at) (drop c.at s)))) where
+    abbrev w' : List ℕ
+    w' = put_mid c.fill (length w - c.fill) w y
 
-        pub next-goes :
-            (d : MarkupLinkCollection) → r₂ ≡ Next d
-            → collect_from render s (collection_of s t w c) (links_from rst 0 c.at (drop c.at s))
-            ≡ collect_from render s (collection_of s t'' w'' d) (links_from rst 0 d.at (drop d.at s))
-        next-goes d v =
-            goes render
-            ∙ ap (goes_on render s (links_from rst 0 (c.at + scanned_bytes (link_of x (drop c.fill w'))) (drop (c.at + scanned_bytes (link_of x (drop c.fill w'))) s))) (sym (u s) ∙ ap (step_of s t'' w'') v)
-            ∙ ap (λ (z : ℕ). collect_from render s (collection_of s t'' w'' d) (links_from rst 0 z (drop z s))) (sym (next-held d v).1)
+    found-by : scanned_of r y ≡ scan_of (drop c.at s)
+    found-by = scans s t w c v.held v.inside v.short v.roomy r y e
 
-        pub refused-goes : (n : ℕ) → r₂ ≡ Refused n → refused n ≡ collect_from render s (collection_of s t w c) (links_from rst 0 c.at (drop c.at s))
-        refused-goes n v =
-            sym
-            (goes render
-            ∙ ap (goes_on render s (links_from rst 0 (c.at + scanned_bytes (link_of x (drop c.fill w'))) (drop (c.at + scanned_bytes (link_of x (drop c.fill w'))) s))) (sym (u s) ∙ ap (step_of s t'' w'') v))
+    kept : collection_of s t w' c ≡ collection_of s t w c
+    kept = scanned-kept s t w c v.held v.inside v.short v.roomy y
 
     -- where none was found, all is collected
-    pub none-goes :
-        (render : ℕ) → r ≡ NotFound
-        → collected (collection_of s t w' c) ≡ collect_from render s (collection_of s t w c) (links_from rst 0 c.at (drop c.at s))
+    pub reading-none : r ≡ Err NotFound → Collects render s t w' (Ok c)
     unfolding scan_of collect_from
-    none-goes render f =
-        ap collected (scanned-kept y)
-        ∙ sym (ap (collect_from render s (collection_of s t w c)) (links-equation rst rst-consuming c.at (drop c.at s) ∙ ap (links_by rst c.at (drop c.at s)) (sym scans ∙ ap (λ (z : Scan). scanned_of z y) f)))
+    reading-none f =
+        record {
+          step =
+              ap collected kept
+              ∙ sym (ap (collect_from render s (collection_of s t w c)) (links-equation rst rst-consuming c.at (drop c.at s) ∙ ap (links_by rst c.at (drop c.at s)) (sym found-by ∙ ap (λ (z : Result Link ParseError). scanned_of z y) f)))
+              ∙ sym v.goes;
+          held = (v.held, v.inside);
+        }
 
-    -- the room is never too short
-    pub room-always : r ≡ NoRoom → ⊥
-    room-always f = scan-of-room (drop c.at s) (sym scans ∙ ap (λ (z : Scan). scanned_of z y) f)
+    -- so where a scan fails, none was found
+    pub reading-missed : (e : ParseError) → r ≡ Err e → Collects render s t w' (Ok c)
+    reading-missed NotFound f = reading-none f
+    reading-missed NoRoom f = absurd (room-always s t w c v.held v.inside v.short v.roomy r y e f)
 
--- at the end of the document, all is collected
-pub end_goes :
-    (render : ℕ) (s t w : List ℕ) (c : MarkupLinkCollection) → length s ≤ c.at
-    → collected (collection_of s t w c) ≡ collect_from render s (collection_of s t w c) (links_from rst 0 c.at (drop c.at s))
-unfolding collect_from links_from
-end_goes render s t w c h =
-    sym (ap (λ (z : List ℕ). collect_from render s (collection_of s t w c) (links_from rst 0 c.at z)) (drop_of_length-le s {i = c.at} h))
+    -- where a link was found
+    module _ (x : Link) (f : r ≡ Ok x) where
+      abbrev found_is : Scanned
+      found_is = found (kind_of x) (part (first_of x) (drop c.fill w')) (part (second_of x) (drop c.fill w')) (skipped_by x) (consumed_by x)
 
--- at its front, nothing is
-pub start-goes :
-    (render : ℕ) (s t w : List ℕ)
-    → collect_all render s (links_of s) ≡ collect_from render s (collection_of s t w nothing_yet) (links_from rst 0 0 (drop 0 s))
-unfolding links_of link_rows pair_rows
-start-goes render s t w = refl
+      link : scan_of (drop c.at s) ≡ found_is
+      link = sym (ap (λ (z : Result Link ParseError). scanned_of z y) (sym f) ∙ found-by) ∙ ap (link_of x) (sym (scanned-rest s t w c v.held v.inside v.short v.roomy y)) ∙ link-is x (drop c.fill w')
 
-pub start-held : (t : List ℕ) → Held 0 0 t nothing_yet
-unfolding link_rows pair_rows LinksWithin PairsWithin
-start-held t =
-    record {
-      tables = record { links-few = omega arith; names-few = omega arith; links-within = tt; destinations-within = tt; aliases-within = tt };
-      inside = omega arith;
-      references-few = omega arith;
-      targets-few = omega arith;
-      filled = omega arith;
-    }
+      -- it has at least one byte, and ends in the document
+      pub inside : (0 < link_end x) × (c.at + link_end x ≤ length s)
+      inside =
+          let h = scan-of-within (drop c.at s) _ _ _ _ _ link in
+          (omega (arith, end_is x, h.0), omega (arith, end_is x, h.1, length-drop c.at s, v.inside))
+
+      pub scannable : length w' ≡ length w → Ends r → Scannable t w' x c
+      scannable g u =
+          record {
+            roomy = (v.roomy.0, omega (arith, g, v.roomy.1));
+            held = v.held;
+            ends = subst Ends f u;
+            inside = omega (arith, inside.1, v.short);
+          }
+
+      -- what is known behind it is true of what is read next, with the marks u that were lent from there on
+      pub next_known :
+          (known : Known) (m u : List ℕ) → length s ≤ length m → TrueBehind (take (length s - c.at) (drop c.at s)) u known r
+          → (n : ℕ) → n ≡ c.at + link_end x → Holds 0 known (drop n (put_mid c.at (length m - c.at) m u)) (drop n s)
+      next_known known m u l b n g =
+          subst (λ (z : List ℕ). Holds 0 known z (drop n s))
+          (ap (drop (link_end x)) (sym (put_rest c.at m u (omega (arith, v.inside, l)))) ∙ drop-drop (link_end x) c.at (put_mid c.at (length m - c.at) m u) ∙ ap (λ (z : ℕ). drop z (put_mid c.at (length m - c.at) m u)) (sym g))
+          (subst (Holds 0 known (drop (link_end x) u))
+          (ap (drop (link_end x)) (part-from s c.at) ∙ drop-drop (link_end x) c.at s ∙ ap (λ (z : ℕ). drop z s) (sym g))
+          (subst (TrueBehind (take (length s - c.at) (drop c.at s)) u known) f b))
+
+      abbrev rest_of : List Placed
+      rest_of = links_from rst 0 (c.at + link_end x) (drop (c.at + link_end x) s)
+
+      -- what all links add, by what this one adds
+      goes : collect_all render s (links_of s) ≡ goes_on render s rest_of (add_scanned render s c.at (collection_of s t w' c) (link_of x (drop c.fill w')))
+      unfolding scan_of
+      goes =
+          v.goes
+          ∙ ap (collect_from render s (collection_of s t w c)) (links-equation rst rst-consuming c.at (drop c.at s) ∙ ap (links_by rst c.at (drop c.at s)) link)
+          ∙ adds-first render c.at s (drop c.at s) (collection_of s t w c) (kind_of x) _ _ (skipped_by x) (consumed_by x)
+          ∙ ap (λ (n : ℕ). goes_on render s (links_from rst 0 (c.at + n) (drop n (drop c.at s))) (add_scanned render s c.at (collection_of s t w c) found_is)) (sym (end_is x))
+          ∙ ap (λ (z : List ℕ). goes_on render s (links_from rst 0 (c.at + link_end x) z) (add_scanned render s c.at (collection_of s t w c) found_is)) (drop-drop (link_end x) c.at s)
+          ∙ ap₂ (λ (z : Collection) (u : Scanned). goes_on render s rest_of (add_scanned render s c.at z u)) (sym kept) (sym (link-is x (drop c.fill w')))
+
+      module _ (t'' w'' : List ℕ) where
+        -- it is added
+        pub reading-next :
+            (d : MarkupLinkCollection) → Roomy t'' w'' → AddsScanned render c x t w' t'' w'' (Ok d)
+            → Reading render s t'' w'' d × (d.at ≡ c.at + link_end x)
+        reading-next d q u =
+            let h = u.held in (
+              record {
+                short = v.short;
+                roomy = q;
+                held = h.0;
+                inside = omega (arith, h.1, inside.1);
+                goes =
+                    goes
+                    ∙ ap (goes_on render s rest_of) (sym (u.step s))
+                    ∙ ap (λ (n : ℕ). collect_from render s (collection_of s t'' w'' d) (links_from rst 0 n (drop n s))) (sym h.1);
+              },
+              h.1,
+            )
+
+        -- or refused
+        pub reading-refused : (e : Refusal) → AddsScanned render c x t w' t'' w'' (Err e) → Collects render s t'' w'' (Err e)
+        reading-refused e u = record { step = sym (goes ∙ ap (goes_on render s rest_of) (sym (u.step s))); held = u.held }

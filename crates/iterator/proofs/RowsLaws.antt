@@ -4,20 +4,21 @@
 use Prim.Native.Nat.{ℕ, zero, suc, ◌+◌, ◌-◌, ◌*◌, ◌<◌, ◌≤◌}
 use mathlib.Core.Path.{◌≡◌, refl, sym, ap, subst, ◌∙◌}
 use mathlib.Core.List.{List, [], ◌∷◌, ◌++◌, map, map-append}
-use mathlib.Core.Bool.{Bool, true, false, true≢false}
 use native.Mathlib.Nat.{not-suc-le-zero}
 use native.Mathlib.Omega.{arith}
-use lib.Dec.{eqb}
 use lib.ListN.{length, get_or, take, set, length-set}
 use lib.Seq.{sets, length-sets, get_or-set_same, get_or-set_other}
-use borrow.Author.Tests.{eqb-true}
 use Rattle.restructured_text.specs.declared.Span.{Span}
 use Rattle.restructured_text.specs.Strings.{part}
 use Rattle.restructured_text.proofs.PartLaws.{part-front}
 use Rattle.iterator.specs.declared.rows.PairRow.{PairRow}
 use Rattle.iterator.specs.declared.rows.LinkRow.{LinkRow}
-use Rattle.iterator.specs.Collect.{Item, destination, label}
+use Rattle.iterator.specs.declared.rows.LinkKind.{LinkKind}
+use Rattle.iterator.specs.declared.rows.LinkKind.TheVariants.{Direct, Reference, Rendered}
+use Rattle.iterator.specs.Collect.{destination, label}
 use Rattle.iterator.specs.Rows.{
+  kind_at,
+  kind_number,
   pair_at,
   link_at,
   put_pair,
@@ -26,15 +27,13 @@ use Rattle.iterator.specs.Rows.{
   link_rows,
   pair_of,
   item_of,
-  reference,
-  rendered,
   SpanWithin,
   PairWithin,
   PairsWithin,
   LinkWithin,
   LinksWithin,
 }
-use Rattle.iterator.specs.Inner.{SpanSmall, PairSmall, LinkSmall}
+use Rattle.iterator.specs.Inner.{PairSmall}
 
 -- A run of stores
 
@@ -68,8 +67,8 @@ module _ (t : List ℕ) (n : ℕ) (x : PairRow) where
   pair-sets =
       let e1 : n + 1 ≡ suc n = omega arith in
       let e2 : n + 2 ≡ suc (suc n) = omega arith in
-      let e3 : n + 3 ≡ suc (suc (suc n)) = omega arith in
-      rw (e1, e2, e3)
+      let e3 : n + 2 + 1 ≡ suc (suc (suc n)) = omega arith in
+      rw (e3, e2, e1)
 
   pub length-put-pair : length (put_pair t n x) ≡ length t
   length-put-pair = ap length pair-sets ∙ length-sets t n (pair_numbers x)
@@ -96,18 +95,24 @@ module _ (t : List ℕ) (n : ℕ) (x : PairRow) where
 
 abbrev link_numbers : LinkRow → List ℕ
 link_numbers x =
-    x.place ∷ x.consumed ∷ x.text.start ∷ x.text.len ∷ x.goal.start ∷ x.goal.len ∷ x.kind ∷ []
+    x.place ∷ x.consumed ∷ x.text.start ∷ x.text.len ∷ x.goal.start ∷ x.goal.len ∷ kind_number x.kind ∷ []
+
+-- a kind that is put is the kind that is read
+kind-back : (kind : LinkKind) → kind_at (kind_number kind) ≡ kind
+kind-back Direct = refl
+kind-back Reference = refl
+kind-back Rendered = refl
 
 module _ (t : List ℕ) (n : ℕ) (x : LinkRow) where
   link-sets : put_link t n x ≡ sets t n (link_numbers x)
   link-sets =
       let e1 : n + 1 ≡ suc n = omega arith in
       let e2 : n + 2 ≡ suc (suc n) = omega arith in
-      let e3 : n + 3 ≡ suc (suc (suc n)) = omega arith in
+      let e3 : n + 2 + 1 ≡ suc (suc (suc n)) = omega arith in
       let e4 : n + 4 ≡ suc (suc (suc (suc n))) = omega arith in
-      let e5 : n + 5 ≡ suc (suc (suc (suc (suc n)))) = omega arith in
+      let e5 : n + 4 + 1 ≡ suc (suc (suc (suc (suc n)))) = omega arith in
       let e6 : n + 6 ≡ suc (suc (suc (suc (suc (suc n))))) = omega arith in
-      rw (e1, e2, e3, e4, e5, e6)
+      rw (e5, e3, e1, e2, e4, e6)
 
   pub length-put-link : length (put_link t n x) ≡ length t
   length-put-link = ap length link-sets ∙ length-sets t n (link_numbers x)
@@ -124,7 +129,7 @@ module _ (t : List ℕ) (n : ℕ) (x : LinkRow) where
     consumed = number 1 (n + 1) (omega arith) (omega arith) i;
     text = record { start = number 2 (n + 2) (omega arith) (omega arith) i; len = number 3 (n + 2 + 1) (omega arith) (omega arith) i };
     goal = record { start = number 4 (n + 4) (omega arith) (omega arith) i; len = number 5 (n + 4 + 1) (omega arith) (omega arith) i };
-    kind = number 6 (n + 6) (omega arith) (omega arith) i;
+    kind = (ap kind_at (number 6 (n + 6) (omega arith) (omega arith)) ∙ kind-back x.kind) i;
   }
     where
       number : (i k : ℕ) → i < 7 → n + i ≡ k → get_or (put_link t n x) k 0 ≡ get_or (link_numbers x) i 0
@@ -132,36 +137,6 @@ module _ (t : List ℕ) (n : ℕ) (x : LinkRow) where
           ap (λ (l : List ℕ). get_or l k 0) link-sets
           ∙ ap (λ (m : ℕ). get_or (sets t n (link_numbers x)) m 0) (sym e)
           ∙ sets-here (link_numbers x) t n i g h
-
--- A row read number by number
-
-pub pair_read :
-    (t : List ℕ) (n : ℕ)
-    → ◌≡◌
-    {A = PairRow}
-    (record {
-      name = record { start = get_or t n 0; len = get_or t (n + 1) 0 };
-      to = record { start = get_or t (n + 2) 0; len = get_or t (n + 3) 0 };
-    })
-    (pair_at t n)
-pair_read t n = let e : n + 3 ≡ n + 2 + 1 = omega arith in rw e
-
-pub link-read :
-    (t : List ℕ) (n : ℕ)
-    → ◌≡◌
-    {A = LinkRow}
-    (record {
-      place = get_or t n 0;
-      consumed = get_or t (n + 1) 0;
-      text = record { start = get_or t (n + 2) 0; len = get_or t (n + 3) 0 };
-      goal = record { start = get_or t (n + 4) 0; len = get_or t (n + 5) 0 };
-      kind = get_or t (n + 6) 0;
-    })
-    (link_at t n)
-link-read t n =
-    let e : n + 3 ≡ n + 2 + 1 = omega arith in
-    let f : n + 5 ≡ n + 4 + 1 = omega arith in
-    rw (e, f)
 
 -- A table of rows
 
@@ -178,7 +153,7 @@ link-agrees a t t' h = λ i. record {
   consumed = h (a + 1) (omega arith) (omega arith) i;
   text = record { start = h (a + 2) (omega arith) (omega arith) i; len = h (a + 2 + 1) (omega arith) (omega arith) i };
   goal = record { start = h (a + 4) (omega arith) (omega arith) i; len = h (a + 4 + 1) (omega arith) (omega arith) i };
-  kind = h (a + 6) (omega arith) (omega arith) i;
+  kind = kind_at (h (a + 6) (omega arith) (omega arith) i);
 }
 
 -- a table is as its numbers are
@@ -301,17 +276,18 @@ unfolding PairsWithin
 pairs-within-wider m n [] h w = tt
 pairs-within-wider m n (x ∷ rows) h w = (pair-within-wider m n x h w.0, pairs-within-wider m n rows h w.1)
 
--- where a text stands, by whether it is that of a rendered block
-abbrev TextBy : Bool → ℕ → ℕ → Span → Type 0
-TextBy r m n a = elim r [ true ↦ SpanWithin m a | false ↦ SpanWithin n a ]
+-- where the text of a row of this kind stands
+abbrev TextBy : LinkKind → ℕ → ℕ → Span → Type 0
+TextBy k m n a = elim k [ Direct ↦ SpanWithin n a | Reference ↦ SpanWithin n a | Rendered ↦ SpanWithin m a ]
 
 link-within-wider : (m m' n n' : ℕ) (x : LinkRow) → m ≤ m' → n ≤ n' → LinkWithin m n x → LinkWithin m' n' x
 link-within-wider m m' n n' x h g w =
-    (omega (arith, w.0), (text (eqb x.kind rendered) w.1.0, span-within-wider n n' x.goal g w.1.1))
+    (omega (arith, w.0), (text x.kind w.1.0, span-within-wider n n' x.goal g w.1.1))
   where
-    text : (r : Bool) → TextBy r m n x.text → TextBy r m' n' x.text
-    text true v = span-within-wider m m' x.text h v
-    text false v = span-within-wider n n' x.text g v
+    text : (k : LinkKind) → TextBy k m n x.text → TextBy k m' n' x.text
+    text Direct v = span-within-wider n n' x.text g v
+    text Reference v = span-within-wider n n' x.text g v
+    text Rendered v = span-within-wider m m' x.text h v
 
 pub links-within-wider :
     (m m' n n' : ℕ) (rows : List LinkRow) → m ≤ m' → n ≤ n' → LinksWithin m n rows → LinksWithin m' n' rows
@@ -351,50 +327,31 @@ pairs-kept fill (x ∷ rows) w w' v e = λ i.
     record { name = part-kept fill x.name w w' v.0.0.0 e i; to = part-kept fill x.to w w' v.0.1.0 e i }
     ∷ pairs-kept fill rows w w' v.1 e i
 
--- no row is of two kinds
-not-rendered : (n : ℕ) → eqb n reference ≡ true → eqb n rendered ≡ false
-not-rendered n e = ap (λ (k : ℕ). eqb k rendered) (eqb-true n reference e)
-
--- a link, by whether its row is a reference and whether it is a rendered block
-abbrev item_by : Bool → Bool → List ℕ → List ℕ → LinkRow → Item
-item_by r d s w x =
-    elim r [
-      | true ↦ record { place = x.place; consumed = x.consumed; text = part x.text w; goal = label (part x.goal w) }
-      | false ↦
-          record {
-            place = x.place;
-            consumed = x.consumed;
-            text = elim d [ true ↦ part x.text s | false ↦ part x.text w ];
-            goal = destination (part x.goal w);
-          }
-    ]
-
 item-kept :
     (m fill : ℕ) (x : LinkRow) (s w w' : List ℕ) → LinkWithin m fill x → take fill w' ≡ take fill w
     → item_of s w' x ≡ item_of s w x
-item-kept m fill x s w w' v e = go (eqb x.kind reference) (eqb x.kind rendered) (not-rendered x.kind) v.1.0
+item-kept m fill x s w w' v e = go x.kind v.1.0
   where
     goal : part x.goal w' ≡ part x.goal w
     goal = part-kept fill x.goal w w' v.1.1.0 e
 
-    go : (r d : Bool) → (r ≡ true → d ≡ false) → TextBy d m fill x.text → item_by r d s w' x ≡ item_by r d s w x
-    go true true f u = absurd (true≢false (f refl))
-    go true false f u = λ i. record {
+    go : (k : LinkKind) → TextBy k m fill x.text → item_of s w' (record x { kind = k }) ≡ item_of s w (record x { kind = k })
+    go Direct u = λ i. record {
+      place = x.place;
+      consumed = x.consumed;
+      text = part-kept fill x.text w w' u.0 e i;
+      goal = destination (goal i);
+    }
+    go Reference u = λ i. record {
       place = x.place;
       consumed = x.consumed;
       text = part-kept fill x.text w w' u.0 e i;
       goal = label (goal i);
     }
-    go false true f u = λ i. record {
+    go Rendered u = λ i. record {
       place = x.place;
       consumed = x.consumed;
       text = part x.text s;
-      goal = destination (goal i);
-    }
-    go false false f u = λ i. record {
-      place = x.place;
-      consumed = x.consumed;
-      text = part-kept fill x.text w w' u.0 e i;
       goal = destination (goal i);
     }
 
@@ -408,13 +365,6 @@ items_kept m fill (x ∷ rows) s w w' v e = λ i. item-kept m fill x s w w' v.0 
 -- Rows of strings in no more than 65,536 bytes can be put.
 pub pair_small : (n : ℕ) (x : PairRow) → PairWithin n x → n ≤ 65536 → PairSmall x
 pair_small n x w h = (omega (arith, w.0.0), omega (arith, w.1.0))
-
-pub link-small : (m n : ℕ) (x : LinkRow) → LinkWithin m n x → m ≤ 65536 → n ≤ 65536 → LinkSmall x
-link-small m n x w h g = (omega (arith, w.0), (text (eqb x.kind rendered) w.1.0, omega (arith, w.1.1.0)))
-  where
-    text : (r : Bool) → TextBy r m n x.text → SpanSmall x.text
-    text true v = omega (arith, v.0)
-    text false v = omega (arith, v.0)
 
 -- a list with one more at its end, mapped
 pub map_snoc : {A B : Type 0} (f : A → B) (xs : List A) (x : A) → map f (xs ++ x ∷ []) ≡ map f xs ++ f x ∷ []

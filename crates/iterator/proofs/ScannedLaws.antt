@@ -1,164 +1,152 @@
--- A link that was found, whichever case it is: what its row is, that it can be added, and that adding the row is adding the link.
+-- A link that was found: what its row is, that it can be added, and that adding the row is adding the link.
 -- Assumes nothing.
 use Prim.Native.Nat.{ℕ, ◌+◌, ◌≤◌}
 use native.Mathlib.Omega.{arith}
-use mathlib.Core.Path.{◌≡◌, refl, sym, ap, subst, ◌∙◌}
+use mathlib.Core.Path.{◌≡◌, refl, sym, ap, subst⁻¹, ◌∙◌}
 use mathlib.Core.List.{List}
-use lib.ListN.{drop}
-use Rattle.restructured_text.specs.declared.Span.{Span}
+use lib.ListN.{take, drop}
+use lib.Seq.{drop-drop}
+use Rattle.restructured_text.specs.Strings.{part}
 use Rattle.parse.specs.declared.Link.{Link}
 use Rattle.parse.specs.declared.Link.TheVariants.{Text2Dest, TextLabel2Dest, Text2Label, Label2Dest, Label2Label}
-use Rattle.parse.specs.Link.{Kind, text2dest, text-label2dest, text2label, label2dest, label2label, Scanned, LinkEnds, link_of}
+use Rattle.parse.specs.Link.{Kind, text2dest, text-label2dest, found, LinkEnds, link_of}
 use Rattle.parse.specs.Links.{Placed}
+use Rattle.parse.specs.Inner.{first_of, second_of, link_end}
 use Rattle.iterator.specs.declared.rows.PairRow.{PairRow}
 use Rattle.iterator.specs.declared.rows.LinkRow.{LinkRow}
 use Rattle.iterator.specs.declared.collect.MarkupLinkCollection.{MarkupLinkCollection}
-use Rattle.iterator.specs.declared.collect.Step.{Step}
 use Rattle.iterator.specs.Collect.{add_of}
-use Rattle.iterator.specs.Rows.{LinkWithin}
-use Rattle.iterator.specs.Inner.{Held, StepHeld, collection_of, step_of, names, link_added, with_link_row, both_added, with_both_rows, LinkSmall, RowWithin, Addable, placed_of, Fitting, row_of, read_to, scanned_bytes, Scannable, add_scanned}
-use Rattle.iterator.proofs.RowsLaws.{link-small}
+use Rattle.iterator.specs.Rows.{pair_rows, link_rows, destinations_at, aliases_at}
+use Rattle.iterator.specs.Inner.{Step, StepHeld, collection_of, step_of, link_added, with_link_row, both_added, with_both_rows, Addable, placed_of, kind_of, skipped_by, consumed_by, row_of, read_to, Scannable, add_scanned, AddsScanned}
+use Rattle.iterator.proofs.RowsLaws.{pairs-within-wider, links-within-wider}
 use Rattle.iterator.proofs.CollectLaws.{held-wider, step_by, step-held-by, link-step, link-step-held, both-step, both-step-held}
-use Rattle.iterator.proofs.AddLaws.{read_held, row_within, row-placed}
 
--- the link of a case
-abbrev pub link_by : Kind → Span → Span → ℕ → ℕ → Link
-link_by text2dest a b m n = Text2Dest a b m n
-link_by text-label2dest a b m n = TextLabel2Dest a b m n
-link_by text2label a b m n = Text2Label a b m n
-link_by label2dest a b m n = Label2Dest a b m n
-link_by label2label a b m n = Label2Label a b m n
+-- a link by its parts
+pub link-is :
+    (x : Link) (w : List ℕ) → link_of x w ≡ found (kind_of x) (part (first_of x) w) (part (second_of x) w) (skipped_by x) (consumed_by x)
+link-is (Text2Dest a b m n) w = refl
+link-is (TextLabel2Dest a b m n) w = refl
+link-is (Text2Label a b m n) w = refl
+link-is (Label2Dest a b m n) w = refl
+link-is (Label2Label a b m n) w = refl
 
-by-ends : (kind : Kind) (a b : Span) (m n : ℕ) → LinkEnds (link_by kind a b m n) → (a.start + a.len ≤ n) × (b.start + b.len ≤ n)
-by-ends text2dest a b m n h = h
-by-ends text-label2dest a b m n h = h
-by-ends text2label a b m n h = h
-by-ends label2dest a b m n h = h
-by-ends label2label a b m n h = h
+pub end_is : (x : Link) → link_end x ≡ skipped_by x + consumed_by x
+end_is (Text2Dest a b m n) = refl
+end_is (TextLabel2Dest a b m n) = refl
+end_is (Text2Label a b m n) = refl
+end_is (Label2Dest a b m n) = refl
+end_is (Label2Label a b m n) = refl
 
-by-scanned :
-    (kind : Kind) (a b : Span) (m n : ℕ) (w : List ℕ)
-    → link_of (link_by kind a b m n) w ≡ Scanned.found kind (Rattle.restructured_text.specs.Strings.part a w) (Rattle.restructured_text.specs.Strings.part b w) m n
-by-scanned text2dest a b m n w = refl
-by-scanned text-label2dest a b m n w = refl
-by-scanned text2label a b m n w = refl
-by-scanned label2dest a b m n w = refl
-by-scanned label2label a b m n w = refl
+link-ends :
+    (x : Link) → LinkEnds x
+    → ((first_of x).start + (first_of x).len ≤ consumed_by x) × ((second_of x).start + (second_of x).len ≤ consumed_by x)
+link-ends (Text2Dest a b m n) h = h
+link-ends (TextLabel2Dest a b m n) h = h
+link-ends (Text2Label a b m n) h = h
+link-ends (Label2Dest a b m n) h = h
+link-ends (Label2Label a b m n) h = h
 
-module _ (t w : List ℕ) (c : MarkupLinkCollection) (x : Link) (kind : Kind) (a b : Span) (m n : ℕ) (e : x ≡ link_by kind a b m n) (p : Scannable t w x c) where
-  ends : (a.start + a.len ≤ n) × (b.start + b.len ≤ n)
-  ends = by-ends kind a b m n (subst LinkEnds e p.1.1.0)
+module _ (t w : List ℕ) (c : MarkupLinkCollection) (x : Link) (p : Scannable t w x c) where
+  row-addable : Addable t w (row_of x c) (read_to x c)
+  row-addable =
+      let k = p.held in
+      let e = end_is x in
+      let h = link-ends x p.ends in
+      let i : link_end x ≤ 16384 = omega (arith, p.inside) in
+      record {
+        roomy = p.roomy;
+        held =
+            record {
+              tables =
+                  record {
+                    links-few = k.tables.links-few;
+                    names-few = k.tables.names-few;
+                    links-within = links-within-wider c.at (c.at + link_end x) c.fill (c.fill + consumed_by x) (link_rows c.links 0 t) (omega arith) (omega arith) k.tables.links-within;
+                    destinations-within = pairs-within-wider c.fill (c.fill + consumed_by x) (pair_rows c.label2dest destinations_at t) (omega arith) k.tables.destinations-within;
+                    aliases-within = pairs-within-wider c.fill (c.fill + consumed_by x) (pair_rows c.label2label aliases_at t) (omega arith) k.tables.aliases-within;
+                  };
+              inside = p.inside;
+              references-few = k.references-few;
+              targets-few = k.targets-few;
+              filled = omega (arith, k.filled, e);
+            };
+        read = omega (arith, e);
+        short = omega (arith, e, i);
+        text-within = (omega (arith, h.0), omega (arith, h.0, e, i));
+        goal-within = (omega (arith, h.1), omega (arith, h.1, e, i));
+      }
 
-  scanned : scanned_bytes (link_of x (drop c.fill w)) ≡ m + n
-  scanned = ap scanned_bytes (ap (λ (z : Link). link_of z (drop c.fill w)) e ∙ by-scanned kind a b m n (drop c.fill w))
-
-  inside : c.at + (m + n) ≤ 16384
-  inside = omega (arith, scanned, p.1.1.1)
-
-  filled : c.fill ≤ 18432
-  filled =
-      let h = p.1.0 in
-      omega (arith, h.filled, h.inside, h.references-few, h.targets-few, h.tables.links-few, h.tables.names-few)
-
-  pub row_fits : Fitting a b m n c
-  row_fits = (omega (arith, inside), (omega (arith, inside, filled, ends.0), omega (arith, inside, filled, ends.1)))
-
-  pub read_fits : (c.at + (m + n) ≤ 65536) × (c.fill + n ≤ 65536)
-  read_fits = (omega (arith, inside), omega (arith, inside, filled))
-
-  pub held : Held 0 0 t (read_to m n c)
-  held = read_held t w c a b m n p.1.0 inside ends.0 ends.1
-
-  within : RowWithin (read_to m n c).at (read_to m n c).fill (row_of a b m n c)
-  within = row_within t w c a b m n p.1.0 inside ends.0 ends.1
-
-  -- its row, and what is collected, as the code has them
-  module _ (row : LinkRow) (d : MarkupLinkCollection) (f : row ≡ row_of a b m n c) (g : d ≡ read_to m n c) where
-    pub addable : Addable t w row d
-    addable =
-        subst (λ (z : LinkRow). Addable t w z d) (sym f) (subst (Addable t w (row_of a b m n c)) (sym g) (p.0, (held, within)))
-
-    pub small : LinkSmall row
-    small =
-        subst LinkSmall (sym f) (link-small (read_to m n c).at (read_to m n c).fill (row_of a b m n c) direct-within (omega (arith, inside)) (omega (arith, inside, filled)))
-      where
-        direct-within : LinkWithin (read_to m n c).at (read_to m n c).fill (row_of a b m n c)
-        direct-within = (within.0, within.1.1)
-
-    pub few : names d ≤ 256
-    few = omega (arith, ap names g, p.1.0.tables.names-few)
-
-    -- the document is read to its end
-    pub read_at : d.at ≡ c.at + scanned_bytes (link_of x (drop c.fill w))
-    read_at = ap (λ (z : MarkupLinkCollection). z.at) g ∙ ap (λ (z : ℕ). c.at + z) (sym scanned)
-
-    pub held_at : (t' : List ℕ) (r : Step) → StepHeld d.at t' r → StepHeld (c.at + scanned_bytes (link_of x (drop c.fill w))) t' r
-    held_at t' r = subst (λ (z : ℕ). StepHeld z t' r) read_at
-
-    -- adding the row is adding the link
-    pub adds-scanned :
-        (render : ℕ) (s : List ℕ)
-        → add_of kind render s (placed_of kind row w) (collection_of s t w d)
-        ≡ add_scanned render s c.at (collection_of s t w c) (link_of x (drop c.fill w))
-    adds-scanned render s =
-        ap (λ (z : LinkRow). add_of kind render s (placed_of kind z w) (collection_of s t w d)) f
-        ∙ ap (λ (z : MarkupLinkCollection). add_of kind render s (placed_of kind (row_of a b m n c) w) (collection_of s t w z)) g
-        ∙ ap (λ (z : Placed). add_of kind render s z (collection_of s t w c)) (row-placed t w c a b m n p.1.0 inside ends.0 ends.1 kind)
-        ∙ sym (ap (add_scanned render s c.at (collection_of s t w c)) (ap (λ (z : Link). link_of z (drop c.fill w)) e ∙ by-scanned kind a b m n (drop c.fill w)))
-
--- An embedded anonymous link.
-module _ (t w : List ℕ) (c : MarkupLinkCollection) (x : Link) (a b : Span) (m n : ℕ) (e : x ≡ Text2Dest a b m n) (p : Scannable t w x c) (row : LinkRow) (d : MarkupLinkCollection) (f : row ≡ row_of a b m n c) (g : d ≡ read_to m n c) (t' : List ℕ) (r : Step) (h : r ≡ link_added d) (k : t' ≡ with_link_row t d row) where
-  row_is : t' ≡ with_link_row t (read_to m n c) (row_of a b m n c)
-  row_is =
-      k
-      ∙ ap (λ (z : LinkRow). with_link_row t d z) f
-      ∙ ap (λ (z : MarkupLinkCollection). with_link_row t z (row_of a b m n c)) g
-
-  held₁ : Held 1 0 t (read_to m n c)
-  held₁ = held-wider 0 1 0 0 t (read_to m n c) (omega arith) (omega arith) (held t w c x text2dest a b m n e p)
-
-  pub text2dest-adds :
+  -- its strings are those that were found, so adding the row is adding the link
+  row-adds :
       (render : ℕ) (s : List ℕ)
-      → step_of s t' w r ≡ add_scanned render s c.at (collection_of s t w c) (link_of x (drop c.fill w))
-  text2dest-adds render s =
-      step_by s w t' (with_link_row t (read_to m n c) (row_of a b m n c)) r (link_added (read_to m n c)) row_is (h ∙ ap link_added g)
-      ∙ link-step t (read_to m n c) (row_of a b m n c) p.0.0 0 held₁ s w
-      ∙ adds-scanned t w c x text2dest a b m n e p (row_of a b m n c) (read_to m n c) refl refl render s
-
-  pub text2dest-held : StepHeld (c.at + scanned_bytes (link_of x (drop c.fill w))) t' r
-  text2dest-held =
-      held_at t w c x text2dest a b m n e p (row_of a b m n c) (read_to m n c) refl refl t' r
-      (step-held-by (read_to m n c).at t' (with_link_row t (read_to m n c) (row_of a b m n c)) r (link_added (read_to m n c)) row_is (h ∙ ap link_added g) (link-step-held t (read_to m n c) (row_of a b m n c) p.0.0 held₁ (within.0, within.1.1)))
+      → add_of (kind_of x) render s (placed_of (kind_of x) (row_of x c) w) (collection_of s t w (read_to x c))
+      ≡ add_scanned render s c.at (collection_of s t w c) (link_of x (drop c.fill w))
+  row-adds render s =
+      ap
+      (λ (z : List ℕ). add_of (kind_of x) render s (found_at z (part (row_of x c).goal w)) (collection_of s t w c))
+      (ap (take (first_of x).len) (sym (drop-drop (first_of x).start c.fill w)))
+      ∙ ap
+      (λ (z : List ℕ). add_of (kind_of x) render s (found_at (part (first_of x) (drop c.fill w)) z) (collection_of s t w c))
+      (ap (take (second_of x).len) (sym (drop-drop (second_of x).start c.fill w)))
+      ∙ sym (ap (add_scanned render s c.at (collection_of s t w c)) (link-is x (drop c.fill w)))
     where
-      within : RowWithin (read_to m n c).at (read_to m n c).fill (row_of a b m n c)
-      within = (addable t w c x text2dest a b m n e p (row_of a b m n c) (read_to m n c) refl refl).1.1
+      found_at : List ℕ → List ℕ → Placed
+      found_at y z = record { place = c.at + skipped_by x; kind = kind_of x; first = y; second = z; consumed = consumed_by x }
 
--- An embedded named link.
-module _ (t w : List ℕ) (c : MarkupLinkCollection) (x : Link) (a b : Span) (m n : ℕ) (e : x ≡ TextLabel2Dest a b m n) (p : Scannable t w x c) (row : LinkRow) (d : MarkupLinkCollection) (f : row ≡ row_of a b m n c) (g : d ≡ read_to m n c) (t' : List ℕ) (r : Step) (h : r ≡ both_added d) (k : t' ≡ with_both_rows t d row (record { name = row.text; to = row.goal })) where
-  abbrev row₂ : PairRow
-  row₂ = record { name = (row_of a b m n c).text; to = (row_of a b m n c).goal }
+  -- a step that adds the row adds the link
+  module _ (render : ℕ) (t' w' : List ℕ) (r : Step) where
+    row-scanned :
+        (kind : Kind) → kind_of x ≡ kind
+        → ((s : List ℕ) → step_of s t' w' r ≡ add_of kind render s (placed_of kind (row_of x c) w) (collection_of s t w (read_to x c)))
+        → StepHeld (read_to x c).at t' r → AddsScanned render c x t w t' w' r
+    row-scanned kind e h k =
+        record {
+          step = λ s. h s ∙ ap (λ (z : Kind). add_of z render s (placed_of z (row_of x c) w) (collection_of s t w (read_to x c))) (sym e) ∙ row-adds render s;
+          held = k;
+        }
 
-  rows_are : t' ≡ with_both_rows t (read_to m n c) (row_of a b m n c) row₂
-  rows_are =
-      k
-      ∙ ap (λ (z : LinkRow). with_both_rows t d z (record { name = z.text; to = z.goal })) f
-      ∙ ap (λ (z : MarkupLinkCollection). with_both_rows t z (row_of a b m n c) row₂) g
+  module _ (render : ℕ) (t' : List ℕ) (r : Step) where
+    -- an embedded anonymous link
+    row-text2dest :
+        kind_of x ≡ text2dest → t' ≡ with_link_row t (read_to x c) (row_of x c) → r ≡ link_added (read_to x c)
+        → AddsScanned render c x t w t' w r
+    row-text2dest e f g =
+        let k = held-wider 0 1 0 0 t (read_to x c) (omega arith) (omega arith) row-addable.held in
+        let v = row-addable in
+        row-scanned render t' w r text2dest e
+        (λ s. step_by s w t' _ r _ f g ∙ link-step t (read_to x c) (row_of x c) p.roomy.0 0 k s w)
+        (step-held-by (read_to x c).at t' _ r _ f g (link-step-held t (read_to x c) (row_of x c) p.roomy.0 k (v.read, (v.text-within, v.goal-within))))
 
-  held₂ : Held 1 1 t (read_to m n c)
-  held₂ = held-wider 0 1 0 1 t (read_to m n c) (omega arith) (omega arith) (held t w c x text-label2dest a b m n e p)
+    -- an embedded named link
+    row-text-label2dest :
+        kind_of x ≡ text-label2dest → t' ≡ with_both_rows t (read_to x c) (row_of x c) (record { name = (row_of x c).text; to = (row_of x c).goal })
+        → r ≡ both_added (read_to x c) → AddsScanned render c x t w t' w r
+    row-text-label2dest e f g =
+        let k = held-wider 0 1 0 1 t (read_to x c) (omega arith) (omega arith) row-addable.held in
+        let v = row-addable in
+        let y : PairRow = record { name = (row_of x c).text; to = (row_of x c).goal } in
+        row-scanned render t' w r text-label2dest e
+        (λ s. step_by s w t' _ r _ f g ∙ both-step t (read_to x c) (row_of x c) y p.roomy.0 k (v.read, (v.text-within, v.goal-within)) s w)
+        (step-held-by (read_to x c).at t' _ r _ f g (both-step-held t (read_to x c) (row_of x c) y p.roomy.0 k (v.read, (v.text-within, v.goal-within)) (v.text-within, v.goal-within)))
 
-  within₂ : RowWithin (read_to m n c).at (read_to m n c).fill (row_of a b m n c)
-  within₂ = (addable t w c x text-label2dest a b m n e p (row_of a b m n c) (read_to m n c) refl refl).1.1
+  -- the same of the row, and of what is collected, as the code has them
+  module _ (row : LinkRow) (d : MarkupLinkCollection) (f : row ≡ row_of x c) (g : d ≡ read_to x c) where
+    as_coded : (P : LinkRow → MarkupLinkCollection → Type 0) → P (row_of x c) (read_to x c) → P row d
+    as_coded P h = subst⁻¹ (λ (z : LinkRow). P z d) f (subst⁻¹ (P (row_of x c)) g h)
 
-  pub text-label2dest-adds :
-      (render : ℕ) (s : List ℕ)
-      → step_of s t' w r ≡ add_scanned render s c.at (collection_of s t w c) (link_of x (drop c.fill w))
-  text-label2dest-adds render s =
-      step_by s w t' (with_both_rows t (read_to m n c) (row_of a b m n c) row₂) r (both_added (read_to m n c)) rows_are (h ∙ ap both_added g)
-      ∙ both-step t (read_to m n c) (row_of a b m n c) row₂ p.0.0 held₂ (within₂.0, within₂.1.1) s w
-      ∙ adds-scanned t w c x text-label2dest a b m n e p (row_of a b m n c) (read_to m n c) refl refl render s
+    pub addable : Addable t w row d
+    addable = as_coded (Addable t w) row-addable
 
-  pub text-label2dest-held : StepHeld (c.at + scanned_bytes (link_of x (drop c.fill w))) t' r
-  text-label2dest-held =
-      held_at t w c x text-label2dest a b m n e p (row_of a b m n c) (read_to m n c) refl refl t' r
-      (step-held-by (read_to m n c).at t' (with_both_rows t (read_to m n c) (row_of a b m n c) row₂) r (both_added (read_to m n c)) rows_are (h ∙ ap both_added g) (both-step-held t (read_to m n c) (row_of a b m n c) row₂ p.0.0 held₂ (within₂.0, within₂.1.1) within₂.1.1))
+    pub text2dest-scanned :
+        (render : ℕ) (t' : List ℕ) (r : Step) → kind_of x ≡ text2dest → t' ≡ with_link_row t d row → r ≡ link_added d
+        → AddsScanned render c x t w t' w r
+    text2dest-scanned render t' r e =
+        as_coded (λ z y. t' ≡ with_link_row t y z → r ≡ link_added y → AddsScanned render c x t w t' w r) (row-text2dest render t' r e)
+
+    pub text-label2dest-scanned :
+        (render : ℕ) (t' : List ℕ) (r : Step) → kind_of x ≡ text-label2dest
+        → t' ≡ with_both_rows t d row (record { name = row.text; to = row.goal }) → r ≡ both_added d → AddsScanned render c x t w t' w r
+    text-label2dest-scanned render t' r e =
+        as_coded
+        (λ z y. t' ≡ with_both_rows t y z (record { name = z.text; to = z.goal }) → r ≡ both_added y → AddsScanned render c x t w t' w r)
+        (row-text-label2dest render t' r e)

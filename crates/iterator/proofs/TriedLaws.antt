@@ -9,8 +9,6 @@ use lib.ListN.{length, length-append, length-map}
 use Rattle.restructured_text.specs.declared.Span.{Span}
 use Rattle.restructured_text.specs.Strings.{part}
 use Rattle.iterator.specs.declared.rows.PairRow.{PairRow}
-use Rattle.iterator.specs.declared.resolve.Lookup.{Lookup}
-use Rattle.iterator.specs.declared.resolve.Lookup.TheVariants.{Has, NotThere}
 use Rattle.iterator.specs.declared.resolve.Walk.{Walk}
 use Rattle.iterator.specs.Collect.{Pair}
 use Rattle.iterator.specs.Resolve.{has, none, lookup}
@@ -23,10 +21,11 @@ use Rattle.iterator.specs.Rows.{
   destinations_at,
   aliases_at,
   room,
+  SpanWithin,
   PairWithin,
   PairsWithin,
 }
-use Rattle.iterator.specs.Inner.{Roomy, Lookable, found_of, LookupWithin, goes_on, left_of, queue_of, walk_of, Without, Walking, Tryable, steps_left, LinksKept, PairSmall}
+use Rattle.iterator.specs.Inner.{Roomy, Lookable, goes_on, left_of, queue_of, walk_of, Without, Walking, Tryable, steps_left, LinksKept, PairSmall}
 use Rattle.iterator.proofs.RowsLaws.{length-put-pair, length_pairs, pairs-put, pairs-pair-after, pairs-pair-before, links-pair-after, pairs-within-snoc, pair_small, map_snoc}
 use Rattle.iterator.proofs.ResolveLaws.{goes-miss, goes-hit}
 use Rattle.iterator.proofs.LookupLaws.{none-fewer}
@@ -48,32 +47,20 @@ without-rows w a a' b b' e f h =
 
 -- the walk with one alias passed more, and with one left out whose target's destination was stored
 abbrev pub passed_one : Walk → Walk
-passed_one v =
-    record {
-      passed = v.passed + 1;
-      next = v.next + 1;
-      end = v.end;
-      misses = v.misses + 1;
-      destinations = v.destinations;
-      known = v.known;
-      fresh = v.fresh;
-    }
+passed_one v = record v { passed = v.passed + 1; next = v.next + 1; misses = v.misses + 1 }
 
 abbrev pub stored_one : Walk → Walk
-stored_one v =
-    record {
-      passed = v.passed;
-      next = v.next + 1;
-      end = v.end;
-      misses = 0;
-      destinations = v.destinations + 1;
-      known = v.known;
-      fresh = v.fresh;
-    }
+stored_one v = record v { next = v.next + 1; misses = 0; destinations = v.destinations + 1 }
 
 -- what trying an alias keeps: t and t' are the work numbers before and after, v and r the walk
 abbrev pub Tried : List ℕ → List ℕ → List ℕ → Walk → Walk → Type 0
-Tried t t' w v r = (walk_of t' w r ≡ walk_of t w v) × (Walking t' w r × ((steps_left r < steps_left v) × LinksKept t t'))
+Tried t t' w v r =
+    record {
+      walk : walk_of t' w r ≡ walk_of t w v;
+      walking : Walking t' w r;
+      fewer : steps_left r < steps_left v;
+      links : LinksKept t t';
+    }
 
 -- the rows from the next alias on, and those behind it
 abbrev ahead_rows : List ℕ → Walk → List PairRow
@@ -121,9 +108,13 @@ module _ (t w : List ℕ) (v : Walk) (p : Tryable t w v) (x : PairRow) (e : x �
   pub tried-small : PairSmall x
   tried-small = pair_small room x within-next.0 (omega arith)
 
-  pub tried-lookable : Lookable x.to v.known v.destinations t w
-  tried-lookable =
-      (p.0.roomy, (omega arith, (within-next.0.1, (p.0.destinations-within, (p.0.known-few, without-next.0)))))
+  -- its target, which is looked up
+  pub tried-inside : x.to.start + x.to.len ≤ length w
+  tried-inside = omega (arith, within-next.0.1.0, p.0.roomy.1)
+
+  pub tried-lookable : (name : List ℕ) → name ≡ part x.to w → Lookable name v.known v.destinations t w
+  tried-lookable name f =
+      ((p.0.roomy, (omega arith, p.0.destinations-within)), (p.0.known-few, ap (λ (n : List ℕ). lookup n (pairs_of v.known destinations_at t w)) f ∙ without-next.0))
 
   queue-next : queue_of t w v ≡ pair_of w x ∷ rest_of t w v
   queue-next = ap (λ (rows : List PairRow). map (pair_of w) rows ++ pairs_of v.passed aliases_at t w) rows_next
@@ -206,13 +197,16 @@ module _ (t w : List ℕ) (v : Walk) (p : Tryable t w v) (x : PairRow) (e : x �
       }
 
   pub passed :
-      (r : Lookup) → found_of r w ≡ lookup (part x.to w) (stored_in t w v) → r ≡ NotThere
+      (name : List ℕ) → name ≡ part x.to w → none ≡ lookup name (stored_in t w v)
       → (t' : List ℕ) → t' ≡ put_pair t (aliases_at + 4 * v.passed) x → Tried t t' w v (passed_one v)
-  passed r g h t' f =
-      subst⁻¹ (λ (l : List ℕ). Tried t l w v (passed_one v)) f (
-        passed-walk (sym g ∙ ap (λ (z : Lookup). found_of z w) h),
-        (passed-walking (sym g ∙ ap (λ (z : Lookup). found_of z w) h), (omega arith, put-links (aliases_at + 4 * v.passed) x (omega arith))),
-      )
+  passed name f g t' h =
+      let e : lookup (part x.to w) (stored_in t w v) ≡ none = sym (g ∙ ap (λ (n : List ℕ). lookup n (stored_in t w v)) f) in
+      subst⁻¹ (λ (l : List ℕ). Tried t l w v (passed_one v)) h (record {
+        walk = passed-walk e;
+        walking = passed-walking e;
+        fewer = omega arith;
+        links = put-links (aliases_at + 4 * v.passed) x (omega arith);
+      })
 
   -- Its target's destination is stored under its name, by a row y, and it is left out
   module _ (y : PairRow) where
@@ -253,8 +247,8 @@ module _ (t w : List ℕ) (v : Walk) (p : Tryable t w v) (x : PairRow) (e : x �
               without-rows w _ _ _ _ (stored-destinations v.fresh p.0.fresh-few) stored-passed p.0.passed-without;
         }
 
-  module _ (to : Span) where
-    -- the row that is stored
+  -- the row that is stored
+  module _ (to : Span) (b : SpanWithin room to) where
     abbrev stored_row : PairRow
     stored_row = record { name = x.name; to = to }
 
@@ -267,21 +261,16 @@ module _ (t w : List ℕ) (v : Walk) (p : Tryable t w v) (x : PairRow) (e : x �
         (ap (map (pair_of w)) (stored-rows stored_row) ∙ map_snoc (pair_of w) (pair_rows v.destinations destinations_at t) stored_row)
         ∙ sym (walk-next ∙ goes-hit (stored_in t w v) v.misses (pair_of w x) (rest_of t w v) misses-fewer (part to w) g)
 
-    module _ (r : Lookup) (b : LookupWithin r) (h : r ≡ Has to) where
-      stored-within : PairWithin room stored_row
-      stored-within = (within-next.0.0, subst LookupWithin h b)
+    pub stored-small : PairSmall stored_row
+    stored-small = pair_small room stored_row (within-next.0.0, b) (omega arith)
 
-      pub stored-small : PairSmall stored_row
-      stored-small = pair_small room stored_row stored-within (omega arith)
-
-      pub stored :
-          found_of r w ≡ lookup (part x.to w) (stored_in t w v)
-          → (t' : List ℕ) → t' ≡ put_pair t (destinations_at + 4 * v.destinations) stored_row → Tried t t' w v (stored_one v)
-      stored g t' f =
-          subst⁻¹ (λ (l : List ℕ). Tried t l w v (stored_one v)) f (
-            stored-walk (sym g ∙ ap (λ (z : Lookup). found_of z w) h),
-            (
-              stored-walking stored_row stored-within,
-              (omega arith, put-links (destinations_at + 4 * v.destinations) stored_row (omega arith)),
-            ),
-          )
+    pub stored :
+        (name : List ℕ) → name ≡ part x.to w → has (part to w) ≡ lookup name (stored_in t w v)
+        → (t' : List ℕ) → t' ≡ put_pair t (destinations_at + 4 * v.destinations) stored_row → Tried t t' w v (stored_one v)
+    stored name f g t' h =
+        subst⁻¹ (λ (l : List ℕ). Tried t l w v (stored_one v)) h (record {
+          walk = stored-walk (sym (g ∙ ap (λ (n : List ℕ). lookup n (stored_in t w v)) f));
+          walking = stored-walking stored_row (within-next.0.0, b);
+          fewer = omega arith;
+          links = put-links (destinations_at + 4 * v.destinations) stored_row (omega arith);
+        })

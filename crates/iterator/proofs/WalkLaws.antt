@@ -3,41 +3,28 @@
 -- Assumes nothing.
 use Prim.Native.Nat.{ℕ, ◌-◌, ◌<◌, ◌≤◌}
 use native.Mathlib.Omega.{arith}
-use mathlib.Core.Path.{◌≡◌, refl, ap, sym, subst, subst⁻¹, ◌∙◌}
+use mathlib.Core.Path.{◌≡◌, refl, ap, sym, subst⁻¹, ◌∙◌}
 use mathlib.Core.List.{List, [], ◌∷◌, ◌++◌, append-nil}
 use lib.Dec.{eqb}
-use borrow.Author.Tests.{eqb-true, eqb-false, eq-eqb, ne_eqb}
+use borrow.Author.Tests.{eqb-true, eqb-false}
 use Rattle.rst_bytes.proofs.TestLaws.{by-test}
 use Rattle.iterator.specs.declared.resolve.Walk.{Walk}
 use Rattle.iterator.specs.Collect.{Pair}
 use Rattle.iterator.specs.Resolve.{lookup, resolve_aliases}
 use Rattle.iterator.specs.Rows.{pair_rows, pairs_of, destinations_at, aliases_at, PairsWithin}
-use Rattle.iterator.specs.Inner.{goes_on, left_of, queue_of, walk_of, wrap, Without, Walking, Tryable, steps_left, LinksKept, AliasesHeld, AliasesResolved}
+use Rattle.iterator.specs.Inner.{goes_on, left_of, queue_of, walk_of, wrap, Without, Walking, Tryable, LinksKept, AliasesHeld, AliasesResolved}
 use Rattle.iterator.proofs.ResolveLaws.{goes-start, goes-stop}
 use Rattle.iterator.proofs.TriedLaws.{Tried, length-queue}
 
 -- At the end, the first again
-abbrev pub wrapped_one : Walk → Walk
+abbrev wrapped_one : Walk → Walk
 wrapped_one v =
-    record {
-      passed = 0;
-      next = 0;
-      end = v.passed;
-      misses = v.misses;
-      destinations = v.destinations;
-      known = v.fresh;
-      fresh = v.destinations;
-    }
-
-pub wrap-end : (v : Walk) → v.next ≡ v.end → wrap v ≡ wrapped_one v
-wrap-end v e = rw (eq-eqb v.next v.end e, wrap)
-
-pub wrap-on : (v : Walk) → (v.next ≡ v.end → ⊥) → wrap v ≡ v
-wrap-on v e = rw (ne_eqb v.next v.end e, wrap)
+    record v { passed = 0; next = 0; end = v.passed; known = v.fresh; fresh = v.destinations }
 
 -- what wrapping keeps, where not all that are left were missed
-abbrev pub Wrapped : List ℕ → List ℕ → Walk → Walk → Type 0
-Wrapped t w v u = Tryable t w u × ((walk_of t w u ≡ walk_of t w v) × (steps_left u ≡ steps_left v))
+record Wrapped (t w : List ℕ) (v u : Walk) : Type 0 where
+  pub tryable : Tryable t w u
+  pub walk : walk_of t w u ≡ walk_of t w v
 
 module _ (t w : List ℕ) (v : Walk) (ok : Walking t w v) (k : v.misses < left_of v) where
   queue-wrap : v.next ≡ v.end → queue_of t w (wrapped_one v) ≡ queue_of t w v
@@ -50,8 +37,9 @@ module _ (t w : List ℕ) (v : Walk) (ok : Walking t w v) (k : v.misses < left_o
   wrapped-end : v.next ≡ v.end → Wrapped t w v (wrapped_one v)
   unfolding PairsWithin Without pair_rows
   wrapped-end e =
-      let f : v.passed - 0 ≡ v.passed = omega arith in (
-        (
+      let f : v.passed - 0 ≡ v.passed = omega arith in
+      record {
+        tryable = (
           record {
             roomy = ok.roomy;
             passed-before = omega arith;
@@ -68,14 +56,14 @@ module _ (t w : List ℕ) (v : Walk) (ok : Walking t w v) (k : v.misses < left_o
             passed-without = tt;
           },
           (omega arith, omega arith),
-        ),
-        (ap (λ (q : List Pair). goes_on v.misses q (pairs_of v.destinations destinations_at t w)) (queue-wrap e), omega arith),
-      )
+        );
+        walk = ap (λ (q : List Pair). goes_on v.misses q (pairs_of v.destinations destinations_at t w)) (queue-wrap e);
+      }
 
   wrapped-on : (v.next ≡ v.end → ⊥) → Wrapped t w v v
-  wrapped-on e = ((ok, (omega arith, k)), (refl, refl))
+  wrapped-on e = record { tryable = (ok, (omega arith, k)); walk = refl }
 
-  pub wrapped-by : (u : Walk) → u ≡ wrap v → Wrapped t w v u
+  wrapped-by : (u : Walk) → u ≡ wrap v → Wrapped t w v u
   wrapped-by u e =
       subst⁻¹ (Wrapped t w v) e
       (by-test (Wrapped t w v) (eqb v.next v.end) _ _ (λ f. wrapped-end (eqb-true _ _ f)) (λ f. wrapped-on (eqb-false _ _ f)))
@@ -87,10 +75,10 @@ without-stored [] = tt
 without-stored (x ∷ aliases) = (refl, without-stored aliases)
 
 -- The whole walk: the work numbers were t and are t'
-abbrev pub Walked : ℕ → ℕ → List ℕ → List ℕ → List ℕ → Walk → Type 0
-Walked aliases destinations t t' w v =
-    Walking t' w v
-    × ((walk_of t' w v ≡ resolve_aliases (pairs_of aliases aliases_at t w) (pairs_of destinations destinations_at t w)) × LinksKept t t')
+pub record Walked (aliases destinations : ℕ) (t t' w : List ℕ) (v : Walk) : Type 0 where
+  pub walking : Walking t' w v
+  pub walk : walk_of t' w v ≡ resolve_aliases (pairs_of aliases aliases_at t w) (pairs_of destinations destinations_at t w)
+  pub links : LinksKept t t'
 
 module _ (aliases destinations : ℕ) (t w : List ℕ) where
   begun-queue : pairs_of (aliases - 0) aliases_at t w ++ pairs_of 0 aliases_at t w ≡ pairs_of aliases aliases_at t w
@@ -116,45 +104,57 @@ module _ (aliases destinations : ℕ) (t w : List ℕ) where
       })
   unfolding PairsWithin Without pair_rows
   begun h =
-      let f : aliases - 0 ≡ aliases = omega arith in (
-        record {
-          roomy = h.0;
-          passed-before = omega arith;
-          next-before = omega arith;
-          few = omega arith;
-          end-few = omega arith;
-          misses-few = omega arith;
-          destinations-within = h.1.1.0;
-          ahead_within = rw f h.1.1.1;
-          passed-within = tt;
-          known-few = omega arith;
-          fresh-few = omega arith;
-          ahead-without = without-stored (pairs_of (aliases - 0) aliases_at t w);
-          passed-without = tt;
-        },
-        (
-          ap (λ (q : List Pair). goes_on 0 q (pairs_of destinations destinations_at t w)) begun-queue
-              ∙ sym (goes-start (pairs_of destinations destinations_at t w) (pairs_of aliases aliases_at t w)),
-          λ n b. refl,
-        ),
-      )
+      let f : aliases - 0 ≡ aliases = omega arith in
+      record {
+        walking =
+            record {
+              roomy = h.0;
+              passed-before = omega arith;
+              next-before = omega arith;
+              few = omega arith;
+              end-few = omega arith;
+              misses-few = omega arith;
+              destinations-within = h.1.1.0;
+              ahead_within = rw f h.1.1.1;
+              passed-within = tt;
+              known-few = omega arith;
+              fresh-few = omega arith;
+              ahead-without = without-stored (pairs_of (aliases - 0) aliases_at t w);
+              passed-without = tt;
+            };
+        walk =
+            ap (λ (q : List Pair). goes_on 0 q (pairs_of destinations destinations_at t w)) begun-queue
+            ∙ sym (goes-start (pairs_of destinations destinations_at t w) (pairs_of aliases aliases_at t w));
+        links = λ n b. refl;
+      }
 
   module _ (t' : List ℕ) (v : Walk) (ok : Walked aliases destinations t t' w v) where
-    -- wrapped at the end, and one alias tried
+    -- wrapped at the end, an alias can be tried
+    pub can-try : v.misses < left_of v → (u : Walk) → u ≡ wrap v → Tryable t' w u
+    can-try k u e = (wrapped-by t' w v ok.walking k u e).tryable
+
+    -- and once it is tried
     pub walked_on :
         v.misses < left_of v → (u : Walk) → u ≡ wrap v → (t'' : List ℕ) (r : Walk) → Tried t' t'' w u r
-        → Walked aliases destinations t t'' w r × (steps_left r < steps_left v)
+        → Walked aliases destinations t t'' w r
     walked_on k u e t'' r b =
-        let a = wrapped-by t' w v ok.0 k u e in (
-          (b.1.0, (b.0 ∙ a.1.0 ∙ ok.1.0, λ n h. b.1.1.1 n h ∙ ok.1.1 n h)),
-          subst (λ n. steps_left r < n) a.1.1 b.1.1.0,
-        )
+        record {
+          walking = b.walking;
+          walk = b.walk ∙ (wrapped-by t' w v ok.walking k u e).walk ∙ ok.walk;
+          links = λ n h. b.links n h ∙ ok.links n h;
+        }
 
     pub ended :
         left_of v ≤ v.misses
-        → (pairs_of v.destinations destinations_at t' w
-        ≡ resolve_aliases (pairs_of aliases aliases_at t w) (pairs_of destinations destinations_at t w))
-        × AliasesResolved v.destinations t t'
+        → record {
+          resolved :
+              pairs_of v.destinations destinations_at t' w
+              ≡ resolve_aliases (pairs_of aliases aliases_at t w) (pairs_of destinations destinations_at t w);
+          held : AliasesResolved v.destinations t t';
+        }
     ended h =
         let stop = goes-stop (pairs_of v.destinations destinations_at t' w) v.misses (queue_of t' w v) (omega (arith, length-queue t' w v)) in
-        (sym stop ∙ ok.1.0, (omega arith, (ok.0.destinations-within, ok.1.1)))
+        record {
+          resolved = sym stop ∙ ok.walk;
+          held = (omega (arith, ok.walking.few), (ok.walking.destinations-within, ok.links));
+        }

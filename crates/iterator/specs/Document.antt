@@ -3,8 +3,8 @@
 -- string buffers keep their bytes. Accepted or refused, work areas of every length end zero. .. An accepted output holds the records, old
 -- bytes after them."
 -- Assumes nothing.
+use Rattle.std.specs.Prelude.{Some, None}
 use Rattle.std.specs.Prelude.{ℕ, List, ◌++◌, true, false, ◌||◌, ltb, length, drop, replicate}
-use Rattle.rst_bytes.specs.declared.Outside.TheVariants.{At, Nowhere}
 use Rattle.rst_bytes.specs.Domain.{outside_of}
 use Rattle.parse.specs.Links.{links_of}
 use Rattle.parse.specs.Single.{document_len_max}
@@ -68,7 +68,7 @@ verdict_of s render numbers bytes output =
         | true ↦ refusal 2 0 output
         | false ↦ elim (ltb numbers numbers_min || ltb bytes bytes_min) [
           | true ↦ refusal 3 0 output
-          | false ↦ elim (outside_of s) [ At n ↦ refusal 4 n output | Nowhere ↦ answered (collect_all render s (links_of s)) output ]
+          | false ↦ elim (outside_of s) [ Some n ↦ refusal 4 n output | None ↦ answered (collect_all render s (links_of s)) output ]
         ]
       ]
     ]

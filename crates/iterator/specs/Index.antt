@@ -42,8 +42,3 @@ with_row i b t = set (set t (aliases_at + i) (get_or t (lasts_at + b) 0)) (lasts
 -- the tables of the links and of the names with a destination are as they were
 abbrev pub TablesKept : List ℕ → List ℕ → Type 0
 TablesKept t t' = (k : ℕ) → k < aliases_at → get_or t' k 0 ≡ get_or t k 0
-
--- and the first i buckets have no row
-pub record Unindexed (i : ℕ) (t t' : List ℕ) : Type 0 where
-  pub kept : TablesKept t t'
-  pub empty : (b : ℕ) → b < i → get_or t' (lasts_at + b) 0 ≡ 0

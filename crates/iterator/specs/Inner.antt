@@ -1,22 +1,25 @@
 -- What the contracts of private functions speak of: what is collected so far as it stands in the work areas, the walk through the aliases,
 -- and the links as they are written.
 -- Assumes nothing.
-use Rattle.std.specs.Prelude.{ℕ, ◌+◌, ◌-◌, ◌*◌, ◌<◌, ◌≤◌, ◌≡◌, List, [], ◌∷◌, ◌++◌, true, false, eqb, ltb, length, take, drop, replicate}
+use Rattle.std.specs.Prelude.{ℕ, ◌+◌, ◌-◌, ◌*◌, ◌<◌, ◌≤◌, ◌≡◌, ⊤, List, [], ◌∷◌, ◌++◌, true, false, eqb, ltb, length, take, drop, replicate, Result, Ok, Err, MatchResult, Option, Some, None}
 use Rattle.restructured_text.specs.declared.Span.{Span}
 use Rattle.restructured_text.specs.Strings.{part}
 use Rattle.parse.specs.declared.Link.{Link}
-use Rattle.parse.specs.Link.{Kind, Scanned, found, nothing, no_room, LinkEnds, link_of}
-use Rattle.parse.specs.Links.{Placed, placed}
+use Rattle.parse.specs.declared.Link.TheVariants.{Text2Dest, TextLabel2Dest, Text2Label, Label2Dest, Label2Label}
+use Rattle.parse.specs.declared.refusal.Refusal.{Refusal}
+use Rattle.parse.specs.declared.refusal.Refusal.TheVariants as refusals
+use Rattle.parse.specs.Link.{Kind, text2dest, text-label2dest, text2label, label2dest, label2label, Scanned, found, nothing, no_room, LinkEnds, link_of}
+use Rattle.parse.specs.Links.{Placed, placed, links_of}
+use Rattle.parse.specs.Inner.{first_of, second_of, link_end}
+use Rattle.parse.specs.Refusal.{number_of, bytes_of}
 use Rattle.iterator.specs.declared.rows.PairRow.{PairRow}
 use Rattle.iterator.specs.declared.rows.LinkRow.{LinkRow}
+use Rattle.iterator.specs.declared.rows.LinkKind.TheVariants.{Direct, Reference, Rendered}
 use Rattle.iterator.specs.declared.counters.Counters.{Counters}
-use Rattle.iterator.specs.declared.counters.Numbered.{Numbered}
+use Rattle.iterator.specs.declared.Outcome.{Outcome}
 use Rattle.iterator.specs.declared.collect.MarkupLinkCollection.{MarkupLinkCollection}
-use Rattle.iterator.specs.declared.collect.Labelled.{Labelled}
-use Rattle.iterator.specs.declared.collect.Step.{Step}
-use Rattle.iterator.specs.declared.collect.Step.TheVariants.{Next, Refused}
-use Rattle.iterator.specs.declared.resolve.Lookup.{Lookup}
-use Rattle.iterator.specs.declared.resolve.Lookup.TheVariants.{Has, NotThere}
+use Rattle.iterator.specs.declared.collect.Table.{Table}
+use Rattle.iterator.specs.declared.collect.Table.TheVariants.{Destinations, Aliases}
 use Rattle.iterator.specs.declared.resolve.Walk.{Walk}
 use Rattle.iterator.specs.declared.resolve.Resolved.{Resolved}
 use Rattle.iterator.specs.Collect.{
@@ -25,15 +28,17 @@ use Rattle.iterator.specs.Collect.{
   collected,
   refused,
   add_of,
+  collect_all,
   is_anonymous,
   numbered,
   Pair,
   pair,
 }
-use Rattle.iterator.specs.Records.{word_of, bytes8, records_of}
-use Rattle.iterator.specs.Resolve.{Destination, has, none, lookup, search, hit, missed, resolve_from, resolve_references, Hyperlink}
+use Rattle.iterator.specs.Records.{records_of}
+use Rattle.iterator.specs.Resolve.{Destination, has, none, lookup, search, hit, missed, resolve_from, Hyperlink}
+use Rattle.iterator.specs.Document.{Verdict, verdict}
 use Rattle.iterator.specs.Index.{Indexed}
-use Rattle.iterator.specs.Rows.{pair_at, pair_rows, link_rows, pairs_of, items_of, hyperlinks_in, destinations_at, aliases_at, direct, text_of, room, SpanWithin, PairsWithin, LinkWithin, LinksWithin, put_link, put_pair}
+use Rattle.iterator.specs.Rows.{pair_at, pair_rows, link_rows, pairs_of, items_of, hyperlinks_in, destinations_at, aliases_at, text_of, room, SpanWithin, PairsWithin, LinkWithin, LinksWithin, put_link, put_pair}
 
 -- rows whose numbers fit into the work numbers
 abbrev pub SpanSmall : Span → Type 0
@@ -47,16 +52,12 @@ LinkSmall x = (x.place + x.consumed ≤ 65536) × (SpanSmall x.text × SpanSmall
 
 -- The counters
 
-abbrev pub started : Counters
-started = record { references = 0; targets = 0 }
+-- the next number, and the counters after it
+abbrev pub reference_numbered : Counters → ℕ × Counters
+reference_numbered c = (c.references + 1, record c { references = c.references + 1 })
 
-abbrev pub reference_numbered : Counters → Numbered
-reference_numbered c =
-    record { number = c.references + 1; counters = record { references = c.references + 1; targets = c.targets } }
-
-abbrev pub target_numbered : Counters → Numbered
-target_numbered c =
-    record { number = c.targets + 1; counters = record { references = c.references; targets = c.targets + 1 } }
+abbrev pub target_numbered : Counters → ℕ × Counters
+target_numbered c = (c.targets + 1, record c { targets = c.targets + 1 })
 
 -- Collecting: document s, work numbers t and work bytes w
 
@@ -71,9 +72,18 @@ collection_of s t w c =
       targets = c.counters.targets;
     }
 
+-- what is collected then, or a refusal
+abbrev pub Step : Type 0
+Step = Result MarkupLinkCollection Refusal
+
+-- a step that changes what is collected to c
+abbrev pub after : Result ⊤ Refusal → MarkupLinkCollection → Step
+after (Ok _) c = Ok c
+after (Err e) c = Err e
+
 abbrev pub step_of : List ℕ → List ℕ → List ℕ → Step → Collected
-step_of s t w (Next c) = collected (collection_of s t w c)
-step_of s t w (Refused number) = refused number
+step_of s t w (Ok c) = collected (collection_of s t w c)
+step_of s t w (Err e) = refused (number_of e)
 
 -- the tables are no longer than they may be, and the strings of their rows stand in what is read and in the bytes that are taken
 pub record Tables (t : List ℕ) (c : MarkupLinkCollection) : Type 0 where
@@ -92,15 +102,13 @@ pub record Held (i j : ℕ) (t : List ℕ) (c : MarkupLinkCollection) : Type 0 w
   pub targets-few : c.counters.targets ≤ c.label2dest + c.label2label + j
   pub filled : c.fill ≤ c.at + 4 * (c.counters.references + c.counters.targets)
 
--- after a step, which has read the document up to place n
+-- after a step, which has read the document up to place n; nothing comes with its refusal
 abbrev pub StepHeld : ℕ → List ℕ → Step → Type 0
-StepHeld n t (Next c) = Held 0 0 t c × (c.at ≡ n)
-StepHeld n t (Refused number) = Unit {0}
+StepHeld n t r = MatchResult r (λ c. Held 0 0 t c × (c.at ≡ n)) (λ e. bytes_of e ≡ 0)
 
 -- at the end, of a document of m bytes
 abbrev pub CollectedHeld : ℕ → List ℕ → Step → Type 0
-CollectedHeld m t (Next c) = Held 0 0 t c × (c.at ≤ m)
-CollectedHeld m t (Refused number) = Unit {0}
+CollectedHeld m t r = MatchResult r (λ c. Held 0 0 t c × (c.at ≤ m)) (λ e. bytes_of e ≡ 0)
 
 -- areas as long as the document call asks for
 abbrev pub Roomy : List ℕ → List ℕ → Type 0
@@ -111,144 +119,134 @@ abbrev pub Unmarked : List ℕ → List ℕ → Type 0
 Unmarked s marks = (length s ≤ length marks) × (marks ≡ replicate (length marks) 0)
 
 abbrev pub nothing_yet : MarkupLinkCollection
-nothing_yet = record { at = 0; fill = 0; links = 0; label2dest = 0; label2label = 0; counters = started }
+nothing_yet =
+    record { at = 0; fill = 0; links = 0; label2dest = 0; label2label = 0; counters = record { references = 0; targets = 0 } }
 
 -- one row more in a table
 abbrev pub one_link : MarkupLinkCollection → MarkupLinkCollection
-one_link c =
-    record {
-      at = c.at;
-      fill = c.fill;
-      links = c.links + 1;
-      label2dest = c.label2dest;
-      label2label = c.label2label;
-      counters = c.counters;
-    }
+one_link c = record c { links = c.links + 1 }
 
-abbrev pub one_destination : MarkupLinkCollection → MarkupLinkCollection
-one_destination c =
-    record {
-      at = c.at;
-      fill = c.fill;
-      links = c.links;
-      label2dest = c.label2dest + 1;
-      label2label = c.label2label;
-      counters = c.counters;
-    }
+abbrev pub one_name : Table → MarkupLinkCollection → MarkupLinkCollection
+one_name Destinations c = record c { label2dest = c.label2dest + 1 }
+one_name Aliases c = record c { label2label = c.label2label + 1 }
 
-abbrev pub one_alias : MarkupLinkCollection → MarkupLinkCollection
-one_alias c =
-    record {
-      at = c.at;
-      fill = c.fill;
-      links = c.links;
-      label2dest = c.label2dest;
-      label2label = c.label2label + 1;
-      counters = c.counters;
-    }
+-- where it stands
+abbrev pub next_name : Table → MarkupLinkCollection → ℕ
+next_name Destinations c = destinations_at + 4 * c.label2dest
+next_name Aliases c = aliases_at + 4 * c.label2label
 
 abbrev pub names : MarkupLinkCollection → ℕ
 names c = c.label2dest + c.label2label
 
+-- the work numbers have room for the tables, which are no longer than they may be
+pub record TablesFit (t : List ℕ) (c : MarkupLinkCollection) : Type 0 where
+  pub long : 4096 ≤ length t
+  pub names-few : names c ≤ 256
+
 -- with n rows in a table, one more has room, or not
-unfoldable pub if_room : {A : Type 0} → ℕ → A → A → A
+abbrev pub if_room : {A : Type 0} → ℕ → A → A → A
 if_room n x y = elim (ltb n 256) [ true ↦ x | false ↦ y ]
 
--- what is collected then, or 5 or 6; and the work numbers
+-- what is collected then, or a refusal; and the work numbers
 abbrev pub link_added : MarkupLinkCollection → Step
-link_added c = if_room c.links (Next (one_link c)) (Refused 5)
+link_added c = if_room c.links (Ok (one_link c)) (Err refusals.Links)
 
 abbrev pub with_link_row : List ℕ → MarkupLinkCollection → LinkRow → List ℕ
 with_link_row t c x = if_room c.links (put_link t (7 * c.links) x) t
 
-abbrev pub destination_added : MarkupLinkCollection → Step
-destination_added c = if_room (names c) (Next (one_destination c)) (Refused 6)
+abbrev pub name_added : Table → MarkupLinkCollection → Step
+name_added table c = if_room (names c) (Ok (one_name table c)) (Err refusals.Names)
 
-abbrev pub with_destination_row : List ℕ → MarkupLinkCollection → PairRow → List ℕ
-with_destination_row t c x = if_room (names c) (put_pair t (destinations_at + 4 * c.label2dest) x) t
-
-abbrev pub alias_added : MarkupLinkCollection → Step
-alias_added c = if_room (names c) (Next (one_alias c)) (Refused 6)
-
-abbrev pub with_alias_row : List ℕ → MarkupLinkCollection → PairRow → List ℕ
-with_alias_row t c x = if_room (names c) (put_pair t (aliases_at + 4 * c.label2label) x) t
+abbrev pub with_name_row : Table → List ℕ → MarkupLinkCollection → PairRow → List ℕ
+with_name_row table t c x = if_room (names c) (put_pair t (next_name table c) x) t
 
 -- a link and then a name with a destination
 abbrev pub both_added : MarkupLinkCollection → Step
-both_added c = if_room c.links (destination_added (one_link c)) (Refused 5)
+both_added c = if_room c.links (name_added Destinations (one_link c)) (Err refusals.Links)
 
 abbrev pub with_both_rows : List ℕ → MarkupLinkCollection → LinkRow → PairRow → List ℕ
-with_both_rows t c x y = if_room c.links (with_destination_row (put_link t (7 * c.links) x) c y) t
+with_both_rows t c x y = if_room c.links (with_name_row Destinations (put_link t (7 * c.links) x) c y) t
 
--- a label or name a, which is the number n if it is _ ; w' are the work bytes then
-pub record LabelledBy (a : Span) (n : ℕ) (c : MarkupLinkCollection) (w w' : List ℕ) (r : Labelled) : Type 0 where
-  pub label : part r.label w' ≡ elim (is_anonymous (part a w)) [ true ↦ numbered n | false ↦ part a w ]
-  pub within : SpanWithin r.collection.fill r.label
+-- a label or name a, for which there are a number and room
+abbrev pub Labellable : Span → ℕ × Counters → MarkupLinkCollection → List ℕ → Type 0
+Labellable a next c w = (next.0 < 1000) × ((c.fill + 4 ≤ length w) × SpanWithin c.fill a)
+
+-- A label or name a, which is the next number if it is _ ; c' is what is collected then, and w' are the work bytes.
+pub record LabelledBy (a : Span) (next : ℕ × Counters) (c : MarkupLinkCollection) (w : List ℕ) (c' : MarkupLinkCollection) (w' : List ℕ) (r : Span) : Type 0 where
+  pub label : part r w' ≡ elim (is_anonymous (part a w)) [ true ↦ numbered next.0 | false ↦ part a w ]
+  pub within : SpanWithin c'.fill r
   pub kept : take c.fill w' ≡ take c.fill w
-  pub grows : c.fill ≤ r.collection.fill
-  pub same_at : r.collection.at ≡ c.at
-  pub same-links : r.collection.links ≡ c.links
-  pub same-destinations : r.collection.label2dest ≡ c.label2dest
-  pub same-aliases : r.collection.label2label ≡ c.label2label
-
--- one more numbered, and at most four bytes for it, or nothing: how many were numbered before and after
-pub record Counted (a : Span) (w : List ℕ) (before after fill fill' : ℕ) : Type 0 where
-  pub counted : after ≡ elim (is_anonymous (part a w)) [ true ↦ before + 1 | false ↦ before ]
-  pub few : after ≤ before + 1
-  pub filled : fill' ≤ fill + 4 * (after - before)
-  pub grows : before ≤ after
+  pub grows : c.fill ≤ c'.fill
+  pub filled : c'.fill ≤ c.fill + elim (is_anonymous (part a w)) [ true ↦ 4 | false ↦ 0 ]
+  pub counters : c'.counters ≡ elim (is_anonymous (part a w)) [ true ↦ next.1 | false ↦ c.counters ]
+  pub rest : c' ≡ record c { fill = c'.fill; counters = c'.counters }
 
 -- a row of a link that was found: its strings stand in the work bytes that are taken, and the document is read to its end
-abbrev pub RowWithin : ℕ → ℕ → LinkRow → Type 0
-RowWithin m n x = (x.place + x.consumed ≤ m) × ((x.consumed ≤ 16384) × (SpanWithin n x.text × SpanWithin n x.goal))
-
-abbrev pub Addable : List ℕ → List ℕ → LinkRow → MarkupLinkCollection → Type 0
-Addable t w x c = Roomy t w × (Held 0 0 t c × RowWithin c.at c.fill x)
+pub record Addable (t w : List ℕ) (x : LinkRow) (c : MarkupLinkCollection) : Type 0 where
+  pub roomy : Roomy t w
+  pub held : Held 0 0 t c
+  pub read : x.place + x.consumed ≤ c.at
+  pub short : x.consumed ≤ 16384
+  pub text-within : SpanWithin c.fill x.text
+  pub goal-within : SpanWithin c.fill x.goal
 
 -- the link that such a row tells
 abbrev pub placed_of : Kind → LinkRow → List ℕ → Placed
 placed_of kind x w =
     record { place = x.place; kind = kind; first = part x.text w; second = part x.goal w; consumed = x.consumed }
 
--- it is added; t' and w' are the areas then
-abbrev pub Adds : Kind → ℕ → LinkRow → MarkupLinkCollection → List ℕ → List ℕ → List ℕ → List ℕ → Step → Type 0
-Adds kind render x c t w t' w' r =
-    (s : List ℕ) → step_of s t' w' r ≡ add_of kind render s (placed_of kind x w) (collection_of s t w c)
+-- a step that adds it; t' and w' are the areas then
+pub record Adds (kind : Kind) (render : ℕ) (x : LinkRow) (c : MarkupLinkCollection) (t w t' w' : List ℕ) (r : Step) : Type 0 where
+  pub step : (s : List ℕ) → step_of s t' w' r ≡ add_of kind render s (placed_of kind x w) (collection_of s t w c)
+  pub held : StepHeld c.at t' r
+
+-- the case of a link that was found, and how many bytes it skipped and consumed
+abbrev pub kind_of : Link → Kind
+kind_of (Text2Dest a b skipped consumed) = text2dest
+kind_of (TextLabel2Dest a b skipped consumed) = text-label2dest
+kind_of (Text2Label a b skipped consumed) = text2label
+kind_of (Label2Dest a b skipped consumed) = label2dest
+kind_of (Label2Label a b skipped consumed) = label2label
+
+abbrev pub skipped_by : Link → ℕ
+skipped_by (Text2Dest a b skipped consumed) = skipped
+skipped_by (TextLabel2Dest a b skipped consumed) = skipped
+skipped_by (Text2Label a b skipped consumed) = skipped
+skipped_by (Label2Dest a b skipped consumed) = skipped
+skipped_by (Label2Label a b skipped consumed) = skipped
+
+abbrev pub consumed_by : Link → ℕ
+consumed_by (Text2Dest a b skipped consumed) = consumed
+consumed_by (TextLabel2Dest a b skipped consumed) = consumed
+consumed_by (Text2Label a b skipped consumed) = consumed
+consumed_by (Label2Dest a b skipped consumed) = consumed
+consumed_by (Label2Label a b skipped consumed) = consumed
 
 -- a link that was found behind place at, its strings behind the bytes that are taken
-abbrev pub Fitting : Span → Span → ℕ → ℕ → MarkupLinkCollection → Type 0
-Fitting a b skipped consumed c = (c.at + skipped ≤ 65536) × ((c.fill + a.start ≤ 65536) × (c.fill + b.start ≤ 65536))
+pub record Fitting (x : Link) (c : MarkupLinkCollection) : Type 0 where
+  pub ends : LinkEnds x
+  pub at : c.at + link_end x ≤ 65536
+  pub fill : c.fill + consumed_by x ≤ 65536
 
-abbrev pub row_of : Span → Span → ℕ → ℕ → MarkupLinkCollection → LinkRow
-row_of a b skipped consumed c =
+abbrev pub row_of : Link → MarkupLinkCollection → LinkRow
+row_of x c =
     record {
-      place = c.at + skipped;
-      consumed = consumed;
-      text = record { start = c.fill + a.start; len = a.len };
-      goal = record { start = c.fill + b.start; len = b.len };
-      kind = direct;
+      place = c.at + skipped_by x;
+      consumed = consumed_by x;
+      text = record { start = c.fill + (first_of x).start; len = (first_of x).len };
+      goal = record { start = c.fill + (second_of x).start; len = (second_of x).len };
+      kind = Direct;
     }
 
-abbrev pub read_to : ℕ → ℕ → MarkupLinkCollection → MarkupLinkCollection
-read_to skipped consumed c =
-    record {
-      at = c.at + (skipped + consumed);
-      fill = c.fill + consumed;
-      links = c.links;
-      label2dest = c.label2dest;
-      label2label = c.label2label;
-      counters = c.counters;
-    }
-
--- how many bytes a scan has read up to the end of the link
-abbrev pub scanned_bytes : Scanned → ℕ
-scanned_bytes (found kind x y skipped consumed) = skipped + consumed
-scanned_bytes nothing = 0
-scanned_bytes no_room = 0
+abbrev pub read_to : Link → MarkupLinkCollection → MarkupLinkCollection
+read_to x c = record c { at = c.at + link_end x; fill = c.fill + consumed_by x }
 
 -- a link that was found can be added
-abbrev pub Scannable : List ℕ → List ℕ → Link → MarkupLinkCollection → Type 0
-Scannable t w x c = Roomy t w × (Held 0 0 t c × (LinkEnds x × (c.at + scanned_bytes (link_of x (drop c.fill w)) ≤ 16384)))
+pub record Scannable (t w : List ℕ) (x : Link) (c : MarkupLinkCollection) : Type 0 where
+  pub roomy : Roomy t w
+  pub held : Held 0 0 t c
+  pub ends : LinkEnds x
+  pub inside : c.at + link_end x ≤ 16384
 
 -- it is added, the document being read up to place n
 abbrev pub add_scanned : ℕ → List ℕ → ℕ → Collection → Scanned → Collected
@@ -256,40 +254,37 @@ add_scanned render s n c (found kind x y skipped consumed) = add_of kind render 
 add_scanned render s n c nothing = collected c
 add_scanned render s n c no_room = collected c
 
-abbrev pub AddsScanned : ℕ → MarkupLinkCollection → Link → List ℕ → List ℕ → List ℕ → List ℕ → Step → Type 0
-AddsScanned render c x t w t' w' r =
-    (s : List ℕ) → step_of s t' w' r ≡ add_scanned render s c.at (collection_of s t w c) (link_of x (drop c.fill w))
+pub record AddsScanned (render : ℕ) (c : MarkupLinkCollection) (x : Link) (t w t' w' : List ℕ) (r : Step) : Type 0 where
+  pub step : (s : List ℕ) → step_of s t' w' r ≡ add_scanned render s c.at (collection_of s t w c) (link_of x (drop c.fill w))
+  pub held : StepHeld (c.at + link_end x) t' r
+
+-- a step that adds all links of document s
+pub record Collects (render : ℕ) (s t w : List ℕ) (r : Step) : Type 0 where
+  pub step : step_of s t w r ≡ collect_all render s (links_of s)
+  pub held : CollectedHeld (length s) t r
 
 -- Looking up
 
-abbrev pub found_of : Lookup → List ℕ → Destination
-found_of (Has a) w = has (part a w)
-found_of NotThere w = none
-
--- the names with a destination, n of them, and a name to be looked up stand in the areas; the first m of them are others
-abbrev pub Lookable : Span → ℕ → ℕ → List ℕ → List ℕ → Type 0
-Lookable name m n t w =
-    Roomy t w
-    × ((n ≤ 256)
-    × (SpanWithin room name
-    × (PairsWithin room (pair_rows n destinations_at t)
-    × ((m ≤ n) × (lookup (part name w) (pairs_of m destinations_at t w) ≡ none)))))
+abbrev pub found_of : Option Span → List ℕ → Destination
+found_of (Some a) w = has (part a w)
+found_of None w = none
 
 -- the names with a destination, n of them, stand in the areas
 abbrev pub NamesHeld : ℕ → List ℕ → List ℕ → Type 0
 NamesHeld n t w = Roomy t w × ((n ≤ 256) × PairsWithin room (pair_rows n destinations_at t))
 
+-- and a name can be looked up there; the first m of them are others
+abbrev pub Lookable : List ℕ → ℕ → ℕ → List ℕ → List ℕ → Type 0
+Lookable name m n t w =
+    NamesHeld n t w × ((m ≤ n) × (lookup name (pairs_of m destinations_at t w) ≡ none))
+
 -- row i can be put into the index
 abbrev pub Indexable : ℕ → List ℕ → List ℕ → Type 0
 Indexable i t w = Roomy t w × ((i < 256) × SpanWithin room (pair_at t (destinations_at + 4 * i)).name)
 
--- the n names are in the index, and a name is to be looked up there
-abbrev pub InIndex : Span → ℕ → List ℕ → List ℕ → Type 0
-InIndex name n t w = NamesHeld n t w × (SpanWithin room name × Indexed n t w)
-
-abbrev pub LookupWithin : Lookup → Type 0
-LookupWithin (Has a) = SpanWithin room a
-LookupWithin NotThere = Unit {0}
+-- the n names are in the index
+abbrev pub InIndex : ℕ → List ℕ → List ℕ → Type 0
+InIndex n t w = NamesHeld n t w × Indexed n t w
 
 -- The walk through the aliases
 
@@ -318,16 +313,7 @@ walk_of t w v = goes_on v.misses (queue_of t w v) (pairs_of v.destinations desti
 abbrev pub wrap : Walk → Walk
 wrap v =
     elim (eqb v.next v.end) [
-      | true ↦
-          record {
-            passed = 0;
-            next = 0;
-            end = v.passed;
-            misses = v.misses;
-            destinations = v.destinations;
-            known = v.fresh;
-            fresh = v.destinations;
-          }
+      | true ↦ record v { passed = 0; next = 0; end = v.passed; known = v.fresh; fresh = v.destinations }
       | false ↦ v
     ]
 
@@ -396,25 +382,14 @@ abbrev pub kept : LinkRow → Resolved → List ℕ → List ℕ → Resolved
 kept x r s w =
     record { links = r.links + 1; size = r.size + (8 + length (text_of s w x) + length (part x.goal w)) }
 
--- of n links the first i are resolved, and those with a destination are the first rows
-pub record Resolving (n i destinations : ℕ) (s t w : List ℕ) (r : Resolved) : Type 0 where
-  pub roomy : Roomy t w
-  pub short : length s ≤ 16384
-  pub before : r.links ≤ i
-  pub inside : i ≤ n
-  pub few : n ≤ 256
-  pub destinations-few : destinations ≤ 256
-  pub size : r.size ≡ size_of (hyperlinks_in r.links s t w)
-  pub resolved-within : LinksWithin (length s) room (link_rows r.links 0 t)
-  pub ahead_within : LinksWithin (length s) room (link_rows (n - i) (7 * i) t)
-  pub destinations-within : PairsWithin room (pair_rows destinations destinations_at t)
-  pub indexed : Indexed destinations t w
-
--- all links, where those from the i-th row on are still to be resolved
-abbrev pub resolving_of : ℕ → ℕ → ℕ → List ℕ → List ℕ → List ℕ → Resolved → List Hyperlink
-resolving_of n i destinations s t w r =
-    hyperlinks_in r.links s t w
-    ++ resolve_references (pairs_of destinations destinations_at t w) (items_of (n - i) (7 * i) s t w)
+-- the destination of a link, by the names with theirs: its goal, or, of a reference, what its label has
+abbrev pub goal_of : List Pair → List ℕ → LinkRow → Destination
+goal_of stored w x =
+    elim x.kind [
+      | Direct ↦ has (part x.goal w)
+      | Reference ↦ lookup (part x.goal w) stored
+      | Rendered ↦ has (part x.goal w)
+    ]
 
 -- n links are to be resolved
 pub record ReferencesHeld (n destinations : ℕ) (s t w : List ℕ) : Type 0 where
@@ -437,10 +412,19 @@ Writing n s t w o =
     × (LinksWithin (length s) room (link_rows n 0 t)
     × (InOrder 0 (hyperlinks_in n s t w) × (length (records_of (hyperlinks_in n s t w)) ≤ length o)))))
 
--- a record by its parts
-abbrev pub written : ℕ → ℕ → List ℕ → List ℕ → List ℕ
-written skipped consumed text dest = bytes8 (word_of skipped consumed (length text) (length dest)) ++ (text ++ dest)
-
 -- fields of 15 bits
 abbrev pub Fields : ℕ → ℕ → ℕ → ℕ → Type 0
 Fields skipped consumed text dest = (skipped < 32768) × ((consumed < 32768) × ((text < 32768) × (dest < 32768)))
+
+-- What the document call returns
+
+-- of the links that were written, or of a refusal
+abbrev pub outcome_of : Result Resolved Refusal → Outcome
+outcome_of (Ok r) = record { number = 0; links = r.links; bytes = r.size }
+outcome_of (Err e) = record { number = number_of e; links = 0; bytes = bytes_of e }
+
+-- a call with this answer, which leaves the output as o, has the verdict v; all of it fits into numbers of 32 bits
+pub record Told (r : Result Resolved Refusal) (o : List ℕ) (v : Verdict) : Type 0 where
+  pub verdict : verdict (outcome_of r) o ≡ v
+  pub links-small : (outcome_of r).links < 4294967296
+  pub bytes-small : (outcome_of r).bytes < 4294967296

@@ -4,8 +4,8 @@
 --   Document    document_of    document    number, links and bytes, the output, and both work areas
 -- It is made of, in 01's order: Collect (collect_all: what all links of the document give, numbered, or 5 or 6), Resolve (hyperlinks_of:
 -- aliases, then references), Records (records_of). What the links of a document are, one after the other, is `parse`'s Links links_of.
--- Rows, Index and Inner are what the contracts of private functions speak of: how lists stand in the work areas. Cases gathers worked cases,
--- which proofs/CasesHold.antt computes.
+-- Rows, Index, Render and Inner are what the contracts of private functions speak of: how lists stand in the work areas, and the option. Cases
+-- gathers worked cases, which proofs/CasesHold.antt computes.
 --
 -- Laws, proved in the file of proofs/ that is named, for the layers above; ReadBack, Laws and Reach define what they speak of:
 --   in order           OrderLaws collected-apart, collected-standing: each link starts at or after the end of the one before, all end
@@ -35,6 +35,7 @@ pub mod Document
 pub mod ReadBack
 pub mod Laws
 pub mod Reach
+pub mod Render
 pub mod Rows
 pub mod Index
 pub mod Inner

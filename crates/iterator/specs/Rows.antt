@@ -6,6 +6,8 @@ use Rattle.restructured_text.specs.declared.Span.{Span}
 use Rattle.restructured_text.specs.Strings.{part}
 use Rattle.iterator.specs.declared.rows.PairRow.{PairRow}
 use Rattle.iterator.specs.declared.rows.LinkRow.{LinkRow}
+use Rattle.iterator.specs.declared.rows.LinkKind.{LinkKind}
+use Rattle.iterator.specs.declared.rows.LinkKind.TheVariants.{Direct, Reference, Rendered}
 use Rattle.iterator.specs.Collect.{Pair, pair, Item, destination, label}
 use Rattle.iterator.specs.Resolve.{Hyperlink, shown_of}
 
@@ -17,6 +19,15 @@ span_at t n = record { start = get_or t n 0; len = get_or t (n + 1) 0 }
 abbrev pub pair_at : List ℕ → ℕ → PairRow
 pair_at t n = record { name = span_at t n; to = span_at t (n + 2) }
 
+-- the kind that a number stands for: 1 a reference, 2 a rendered block, any other a link that goes to its goal
+abbrev pub kind_at : ℕ → LinkKind
+kind_at n = elim (eqb n 1) [ true ↦ Reference | false ↦ elim (eqb n 2) [ true ↦ Rendered | false ↦ Direct ] ]
+
+abbrev pub kind_number : LinkKind → ℕ
+kind_number Direct = 0
+kind_number Reference = 1
+kind_number Rendered = 2
+
 abbrev pub link_at : List ℕ → ℕ → LinkRow
 link_at t n =
     record {
@@ -24,29 +35,23 @@ link_at t n =
       consumed = get_or t (n + 1) 0;
       text = span_at t (n + 2);
       goal = span_at t (n + 4);
-      kind = get_or t (n + 6) 0;
+      kind = kind_at (get_or t (n + 6) 0);
     }
+
+-- two numbers put at place n
+abbrev pub put_span : List ℕ → ℕ → Span → List ℕ
+put_span t n x = set (set t n x.start) (n + 1) x.len
 
 -- a row put at place n
 abbrev pub put_pair : List ℕ → ℕ → PairRow → List ℕ
-put_pair t n x =
-    set (set (set (set t n x.name.start) (n + 1) x.name.len) (n + 2) x.to.start) (n + 3) x.to.len
+put_pair t n x = put_span (put_span t n x.name) (n + 2) x.to
 
 abbrev pub put_link : List ℕ → ℕ → LinkRow → List ℕ
 put_link t n x =
     set
-    (set
-    (set
-    (set
-    (set (set (set t n x.place) (n + 1) x.consumed) (n + 2) x.text.start)
-    (n + 3)
-    x.text.len)
-    (n + 4)
-    x.goal.start)
-    (n + 5)
-    x.goal.len)
+    (put_span (put_span (set (set t n x.place) (n + 1) x.consumed) (n + 2) x.text) (n + 4) x.goal)
     (n + 6)
-    x.kind
+    (kind_number x.kind)
 
 -- n rows from place a on
 unfoldable pub pair_rows : ℕ → ℕ → List ℕ → List PairRow
@@ -61,37 +66,26 @@ link_rows (suc n) a t = link_at t a ∷ link_rows n (a + 7) t
 abbrev pub pair_of : List ℕ → PairRow → Pair
 pair_of w x = pair (part x.name w) (part x.to w)
 
--- the three kinds of link rows: one that goes to its goal; a reference, whose goal is a label; a rendered block, whose text is a part of
--- the document s
-abbrev pub direct : ℕ
-direct = 0
-
-abbrev pub reference : ℕ
-reference = 1
-
-abbrev pub rendered : ℕ
-rendered = 2
-
+-- the goal of a reference is a label, that of others a destination; the text of a rendered block is a part of the document s
 abbrev pub item_of : List ℕ → List ℕ → LinkRow → Item
 item_of s w x =
-    elim (eqb x.kind reference) [
-      | true ↦ record { place = x.place; consumed = x.consumed; text = part x.text w; goal = label (part x.goal w) }
-      | false ↦
-          record {
-            place = x.place;
-            consumed = x.consumed;
-            text = elim (eqb x.kind rendered) [ true ↦ part x.text s | false ↦ part x.text w ];
-            goal = destination (part x.goal w);
-          }
+    elim x.kind [
+      | Direct ↦
+          record { place = x.place; consumed = x.consumed; text = part x.text w; goal = destination (part x.goal w) }
+      | Reference ↦
+          record { place = x.place; consumed = x.consumed; text = part x.text w; goal = label (part x.goal w) }
+      | Rendered ↦
+          record { place = x.place; consumed = x.consumed; text = part x.text s; goal = destination (part x.goal w) }
     ]
 
--- the same once references are resolved, so that the goal is a destination: the text of a link that is no rendered block
-abbrev pub plain_text : List ℕ → LinkRow → List ℕ
-plain_text w x =
-    elim (eqb x.kind reference) [ true ↦ shown_of (part x.text w) (part x.goal w) | false ↦ part x.text w ]
-
+-- the same once references are resolved, so that the goal is a destination
 abbrev pub text_of : List ℕ → List ℕ → LinkRow → List ℕ
-text_of s w x = elim (eqb x.kind rendered) [ true ↦ part x.text s | false ↦ plain_text w x ]
+text_of s w x =
+    elim x.kind [
+      | Direct ↦ part x.text w
+      | Reference ↦ shown_of (part x.text w) (part x.goal w)
+      | Rendered ↦ part x.text s
+    ]
 
 abbrev pub hyperlink_of : List ℕ → List ℕ → LinkRow → Hyperlink
 hyperlink_of s w x = record { place = x.place; consumed = x.consumed; text = text_of s w x; dest = part x.goal w }
@@ -126,7 +120,7 @@ PairWithin n x = SpanWithin n x.name × SpanWithin n x.to
 
 -- and, of a rendered block, in the m bytes of the document
 abbrev pub TextWithin : ℕ → ℕ → LinkRow → Type 0
-TextWithin m n x = elim (eqb x.kind rendered) [ true ↦ SpanWithin m x.text | false ↦ SpanWithin n x.text ]
+TextWithin m n x = elim x.kind [ Direct ↦ SpanWithin n x.text | Reference ↦ SpanWithin n x.text | Rendered ↦ SpanWithin m x.text ]
 
 abbrev pub LinkWithin : ℕ → ℕ → LinkRow → Type 0
 LinkWithin m n x = (x.place + x.consumed ≤ m) × (TextWithin m n x × SpanWithin n x.goal)

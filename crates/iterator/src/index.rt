@@ -1,30 +1,19 @@
 // The index of the names with a destination. Each name belongs to one of 256 buckets. Of each bucket the index has the last row, and of each
 // row the one before it in its bucket: counted from 1, and 0 where there is none.
-ghost use Rattle.std.specs.Prelude.{◌≡◌, ◌≤◌, length};
-ghost use Rattle.iterator.specs.Index.{row_bucket, with_row, TablesKept, Unindexed, Indexed};
+// No map: the memory is the caller's, and there is no heap.
+ghost use Rattle.std.specs.Prelude.{◌≡◌, length};
+ghost use Rattle.iterator.specs.Index.{row_bucket, with_row, TablesKept, Indexed};
 ghost use Rattle.iterator.specs.Inner.{NamesHeld, Indexable};
 
 use crate::names::bucket;
-use crate::rows::{DESTINATIONS, pair_at};
+use crate::rows::{ALIASES, DESTINATIONS, pair_at};
 
 // How many buckets there are.
 const BUCKETS: usize = 256;
 // Where the last row of each bucket stands.
 pub const LASTS: usize = 3840;
 // Where, of each row, the one before it in its bucket stands: in the table of the aliases, which are resolved before the index is made.
-pub const EARLIER: usize = 2816;
-
-// No row in any bucket.
-fn clear_buckets(numbers: &mut [u32])
-    requires { 4096 ≤ length numbers.old }
-    ensures { Unindexed 256 numbers.old numbers.new }
-{
-    let mut i = 0;
-    while i < BUCKETS {
-        numbers[LASTS + i] = 0;
-        i += 1;
-    }
-}
+pub const EARLIER: usize = ALIASES;
 
 // Puts row i into the index, behind the rows before it.
 fn index_row(i: usize, numbers: &mut [u32], bytes: &[u8])
@@ -32,8 +21,7 @@ fn index_row(i: usize, numbers: &mut [u32], bytes: &[u8])
     ensures { numbers.new ≡ with_row i (row_bucket numbers.old bytes.now i) numbers.old }
 {
     let row = pair_at(numbers, DESTINATIONS + 4 * i);
-    let name = row.name;
-    let b = bucket(bytes, name);
+    let b = bucket(row.name.of(bytes));
     numbers[EARLIER + i] = numbers[LASTS + b];
     numbers[LASTS + b] = (i + 1) as u32;
 }
@@ -44,10 +32,8 @@ pub fn index_names(n: usize, numbers: &mut [u32], bytes: &[u8])
     ensures kept { TablesKept numbers.old numbers.new }
     ensures indexed { Indexed n numbers.new bytes.now }
 {
-    clear_buckets(numbers);
-    let mut i = 0;
-    while i < n {
+    numbers[LASTS..LASTS + BUCKETS].fill(0);
+    for i in 0..n {
         index_row(i, numbers, bytes);
-        i += 1;
     }
 }

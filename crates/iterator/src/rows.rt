@@ -1,8 +1,9 @@
 // Rows in the work numbers: a link takes seven of them, a name with its destination or its target four. The strings that they name
 // stand in the work bytes; the text of a rendered block stands in the document.
+// No `Vec` of rows: the memory is the caller's, and there is no heap.
 ghost use Rattle.std.specs.Prelude.{◌≡◌, ◌+◌, ◌≤◌, length};
-ghost use Rattle.iterator.specs.Rows.{pair_at, link_at, put_pair, put_link};
-ghost use Rattle.iterator.specs.Inner.{PairSmall, LinkSmall};
+ghost use Rattle.iterator.specs.Rows.{kind_at, span_at, pair_at, link_at, put_span, put_pair, put_link};
+ghost use Rattle.iterator.specs.Inner.{SpanSmall, PairSmall, LinkSmall};
 
 use restructured_text::Span;
 
@@ -20,15 +21,31 @@ pub struct LinkRow {
     pub consumed: usize,
     pub text: Span,
     pub goal: Span,
-    pub kind: u32,
+    pub kind: LinkKind,
 }
 
-// A link whose goal is a destination.
-pub const DIRECT: u32 = 0;
-// A reference, whose goal is a label until it is resolved.
-pub const REFERENCE: u32 = 1;
-// A destination block that is a link too, whose text is a part of the document.
-pub const RENDERED: u32 = 2;
+#[derive(Clone, Copy)]
+pub enum LinkKind {
+    // A link whose goal is a destination.
+    Direct,
+    // A reference, whose goal is a label until it is resolved.
+    Reference,
+    // A destination block that is a link too, whose text is a part of the document.
+    Rendered,
+}
+
+// The kind that stands in a row as a number.
+impl From<u32> for LinkKind {
+    ghost from_gives = { λ n kind. kind ≡ kind_at n };
+
+    fn from(n: u32) -> Self {
+        match n {
+            1 => LinkKind::Reference,
+            2 => LinkKind::Rendered,
+            _ => LinkKind::Direct,
+        }
+    }
+}
 
 // How many links, and how many names, are collected at the most.
 pub const ROWS_MAX: usize = 256;
@@ -37,20 +54,34 @@ pub const DESTINATIONS: usize = 1792;
 // Where the table of the aliases starts.
 pub const ALIASES: usize = 2816;
 
+// The two numbers at a place.
+fn span_at(numbers: &[u32], n: usize) -> Span
+    requires { n + 2 ≤ length numbers.now }
+    ensures { result ≡ span_at numbers.now n }
+{
+    Span {
+        start: numbers[n] as usize,
+        len: numbers[n + 1] as usize,
+    }
+}
+
+// Two numbers put at a place.
+fn put_span(numbers: &mut [u32], n: usize, x: Span)
+    requires { (n + 2 ≤ length numbers.old) × SpanSmall x }
+    ensures { numbers.new ≡ put_span numbers.old n x }
+{
+    numbers[n] = x.start as u32;
+    numbers[n + 1] = x.len as u32;
+}
+
 // The four numbers at a place.
 pub fn pair_at(numbers: &[u32], n: usize) -> PairRow
     requires { n + 4 ≤ length numbers.now }
     ensures { result ≡ pair_at numbers.now n }
 {
     PairRow {
-        name: Span {
-            start: numbers[n] as usize,
-            len: numbers[n + 1] as usize,
-        },
-        to: Span {
-            start: numbers[n + 2] as usize,
-            len: numbers[n + 3] as usize,
-        },
+        name: span_at(numbers, n),
+        to: span_at(numbers, n + 2),
     }
 }
 
@@ -59,10 +90,8 @@ pub fn put_pair(numbers: &mut [u32], n: usize, x: PairRow)
     requires { (n + 4 ≤ length numbers.old) × PairSmall x }
     ensures { numbers.new ≡ put_pair numbers.old n x }
 {
-    numbers[n] = x.name.start as u32;
-    numbers[n + 1] = x.name.len as u32;
-    numbers[n + 2] = x.to.start as u32;
-    numbers[n + 3] = x.to.len as u32;
+    put_span(numbers, n, x.name);
+    put_span(numbers, n + 2, x.to);
 }
 
 // The seven numbers at a place.
@@ -73,15 +102,9 @@ pub fn link_at(numbers: &[u32], n: usize) -> LinkRow
     LinkRow {
         place: numbers[n] as usize,
         consumed: numbers[n + 1] as usize,
-        text: Span {
-            start: numbers[n + 2] as usize,
-            len: numbers[n + 3] as usize,
-        },
-        goal: Span {
-            start: numbers[n + 4] as usize,
-            len: numbers[n + 5] as usize,
-        },
-        kind: numbers[n + 6],
+        text: span_at(numbers, n + 2),
+        goal: span_at(numbers, n + 4),
+        kind: LinkKind::from(numbers[n + 6]),
     }
 }
 
@@ -92,9 +115,7 @@ pub fn put_link(numbers: &mut [u32], n: usize, x: LinkRow)
 {
     numbers[n] = x.place as u32;
     numbers[n + 1] = x.consumed as u32;
-    numbers[n + 2] = x.text.start as u32;
-    numbers[n + 3] = x.text.len as u32;
-    numbers[n + 4] = x.goal.start as u32;
-    numbers[n + 5] = x.goal.len as u32;
-    numbers[n + 6] = x.kind;
+    put_span(numbers, n + 2, x.text);
+    put_span(numbers, n + 4, x.goal);
+    numbers[n + 6] = x.kind as u32;
 }

@@ -1,6 +1,7 @@
 -- The laws of `specs/Scan.antt` and `specs/Links.antt` on appended text: LF and a tail behind a text change no link of it. The forms
 -- find there what they found, so a round gives what it gave, unless it had reached the end; then what it finds is behind that LF.
 -- Assumes nothing.
+use Rattle.std.proofs.Common.{Option, Some, None}
 use Prim.Native.Nat.{ℕ, zero, suc, ◌+◌, ◌-◌, ◌<◌, ◌≤◌}
 use native.Mathlib.Nat.{zero-add}
 use native.Mathlib.Omega.{arith}
@@ -12,8 +13,6 @@ use lib.Dec.{ltb}
 use lib.ListN.{length, drop, length-drop}
 use lib.Seq.{drop-append-le}
 use Rattle.rst_bytes.specs.Appending.{Body, Tail}
-use Rattle.rst_bytes.specs.declared.Part.{Part}
-use Rattle.rst_bytes.specs.declared.Part.TheVariants.{Taken, Refused}
 use Rattle.rst_bytes.specs.Line.{bytes_from, space1_of}
 use Rattle.rst_bytes.proofs.TestLaws.{by-test₂}
 use Rattle.rst_bytes.proofs.LineLaws.{bytes-within, bytes-append, bytes_count, space1-le, space1-lf, body-drop}
@@ -176,13 +175,13 @@ module _ (forms : Forms) (c : Consuming forms) (t : List ℕ) (kept : Keeping t 
   blank-keeps line s b = go (space1_of s) (space1_of (s ++ 10 ∷ t)) (space1-lf s t) refl
     where
       go :
-          (z z' : Part) → z' ≡ z → space1_of s ≡ z
+          (z z' : Option ℕ) → z' ≡ z → space1_of s ≡ z
           → Keeps (length s)
-          (elim z [ Taken n ↦ later n (text_round forms true (drop n s)) | Refused ↦ text_round forms line s ])
-          (elim z' [ Taken n ↦ later n (text_round forms true (drop n (s ++ 10 ∷ t))) | Refused ↦ text_round forms line (s ++ 10 ∷ t) ])
-      go (Taken n) z' e f =
+          (elim z [ Some n ↦ later n (text_round forms true (drop n s)) | None ↦ text_round forms line s ])
+          (elim z' [ Some n ↦ later n (text_round forms true (drop n (s ++ 10 ∷ t))) | None ↦ text_round forms line (s ++ 10 ∷ t) ])
+      go (Some n) z' e f =
           rw e (later-rest t (text_round forms true) n s (space1-le s n f) (text-keeps true (drop n s) (body-drop s n b)))
-      go Refused z' e f = rw e (text-keeps line s b)
+      go None z' e f = rw e (text-keeps line s b)
 
   line-keeps : (line : Bool) (s : List ℕ) → Body s → Keeps (length s) (line_round forms line s) (line_round forms line (s ++ 10 ∷ t))
   unfolding line_round

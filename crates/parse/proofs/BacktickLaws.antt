@@ -2,6 +2,7 @@
 -- of `unclosed` learns it, since from each backtick that was passed as an escaped one a part runs on to the same end; and no inline form is
 -- found where it holds.
 -- Assumes nothing.
+use Rattle.std.specs.Prelude.{Option, Some, None, IfSome, MatchOption}
 use Prim.Native.Nat.{ℕ, ◌+◌, ◌-◌, ◌<◌, ◌≤◌}
 use native.Mathlib.Nat.{le_refl, le_trans}
 use native.Mathlib.Omega.{arith}
@@ -15,8 +16,6 @@ use lib.Seq.{drop-drop, get_or-drop}
 use borrow.Author.Tests.{eq-eqb, ne_eqb}
 use Rattle.rst_bytes.specs.Escaped.{is_escapable, is_stop, taking}
 use Rattle.rst_bytes.specs.Tag.{starts_with}
-use Rattle.rst_bytes.specs.declared.Part.{Part}
-use Rattle.rst_bytes.specs.declared.Part.TheVariants.{Taken, Refused}
 use Rattle.rst_bytes.proofs.Lists.{drop-next, drop-two, drop-last, drop-end}
 use Rattle.rst_bytes.proofs.TestLaws.{by-test, lt-or-le}
 use Rattle.rst_bytes.proofs.EscapedLaws.{refused-taken, taken_is, taken-from, at-end, at_plain, at-stop, at-alone, at_pair, at-wrong}
@@ -61,19 +60,19 @@ holds_later s marks m k known h w =
 
 -- where a part that is read from place i on ends, it is not closed
 abbrev pub Unclosed : List ℕ → ℕ → Type 0
-Unclosed s i = (m : ℕ) → taking 0x60 0x60 false i (drop i s) ≡ Taken m → (anonym : Bool) → starts_with (closing anonym) (drop m s) ≡ false
+Unclosed s i = (m : ℕ) → taking 0x60 0x60 false i (drop i s) ≡ Some m → (anonym : Bool) → starts_with (closing anonym) (drop m s) ≡ false
 
 -- a part that is read from behind a backtick before i runs on to i
 abbrev pub Runs : List ℕ → ℕ → Type 0
 Runs s i = (q : ℕ) → q < i → get_or s q 0 ≡ 0x60 → Unclosed s i → Unclosed s (q + 1)
 
 -- a backtick before a part that is not closed begins nothing
-unclosed-refused : (s : List ℕ) (i : ℕ) → Unclosed s (i + 1) → (anonym : Bool) → backticked_of anonym (drop i s) ≡ Refused
+unclosed-refused : (s : List ℕ) (i : ℕ) → Unclosed s (i + 1) → (anonym : Bool) → backticked_of anonym (drop i s) ≡ None
 unclosed-refused s i f anonym = go (backticked_of anonym (drop i s)) refl
   where
-    go : (x : Part) → backticked_of anonym (drop i s) ≡ x → backticked_of anonym (drop i s) ≡ Refused
-    go Refused e = e
-    go (Taken n) e =
+    go : (x : Option ℕ) → backticked_of anonym (drop i s) ≡ x → backticked_of anonym (drop i s) ≡ None
+    go None e = e
+    go (Some n) e =
         let d = delimited-is (0x60 ∷ []) 0x60 0x60 (closing anonym) (drop i s) n e in
         let u : drop 1 (drop i s) ≡ drop (i + 1) s = drop-drop 1 i s in
         let t = taken-from 0x60 0x60 (i + 1) (drop 1 (drop i s)) n d.inner in
@@ -81,8 +80,15 @@ unclosed-refused s i f anonym = go (backticked_of anonym (drop i s)) refl
         absurd (true≢false (sym d.ends ∙ ap (λ (x : List ℕ). starts_with (closing anonym) (drop n x)) u ∙ ap (starts_with (closing anonym)) (drop-drop n (i + 1) s) ∙ c))
 
 -- so what `unclosed` returns where a part ends is right
-pub runs-shut : (s : List ℕ) (i : ℕ) → Runs s i → Unclosed s i → Shut 0 i s
-runs-shut s i f u q h l b anonym = unclosed-refused s q (f q l b u) anonym
+pub runs-shut : (s : List ℕ) (i : ℕ) → Runs s i → Unclosed s i → (n : ℕ) → n ≤ i → Shut 0 n s
+runs-shut s i f u n k q h l b anonym = unclosed-refused s q (f q (omega arith) b u) anonym
+
+-- what is known of backticks from place i on, or what `unclosed` says of what stands there, t
+pub shut-further :
+    (s t : List ℕ) (i shut r : ℕ) (o : Option ℕ) → t ≡ drop i s → Shut i shut s → IfSome o (λ n. (n ≤ length t) × Shut 0 n t)
+    → MatchOption o (r ≡ shut) (λ n. r ≡ i + n) → Shut i r s
+shut-further s t i shut r None e f g h = subst⁻¹ (λ (n : ℕ). Shut i n s) h f
+shut-further s t i shut r (Some n) e f g h = subst⁻¹ (λ (m : ℕ). Shut i m s) h (each-behind (Tick NoPart) s t i n e g.1)
 
 -- a backslash is no backtick
 apart : ◌≡◌ {A = ℕ} 0x5C 0x60 → ⊥
@@ -141,15 +147,15 @@ closing-other false b c l h = by-test (λ x. x ≡ false) (eqb b 0x60) _ _ (λ e
 -- The ends of a part, by the code's tests.
 module _ (s : List ℕ) (i : ℕ) where
   -- it ends at i, where no closing tag stands
-  ended : taking 0x60 0x60 false i (drop i s) ≡ Taken i → ((anonym : Bool) → starts_with (closing anonym) (drop i s) ≡ false) → Unclosed s i
+  ended : taking 0x60 0x60 false i (drop i s) ≡ Some i → ((anonym : Bool) → starts_with (closing anonym) (drop i s) ≡ false) → Unclosed s i
   ended e f m t anonym = ap (λ (j : ℕ). starts_with (closing anonym) (drop j s)) (taken_is m i (sym t ∙ e)) ∙ f anonym
 
   -- it is refused
-  refused : taking 0x60 0x60 false i (drop i s) ≡ Refused → Unclosed s i
+  refused : taking 0x60 0x60 false i (drop i s) ≡ None → Unclosed s i
   refused e m t = absurd (refused-taken m (sym e ∙ t))
 
   -- a backtick
-  stopped : i < length s → get_or s i 0 ≡ 0x60 → taking 0x60 0x60 false i (drop i s) ≡ Taken i
+  stopped : i < length s → get_or s i 0 ≡ 0x60 → taking 0x60 0x60 false i (drop i s) ≡ Some i
   unfolding is_stop
   stopped h e = at-stop 0x60 0x60 s i h (λ f. apart (sym f ∙ e)) (simp (eq-eqb _ _ e))
 
@@ -166,23 +172,24 @@ module _ (s : List ℕ) (i : ℕ) where
   unclosed-wrong h e f = refused (at-wrong 0x60 0x60 s i h e f)
 
   -- a backtick, last or before another byte than '_'
-  pub unclosed-last : i < length s → length s ≤ i + 1 → get_or s i 0 ≡ 0x60 → Unclosed s i
-  unclosed-last h l e =
-      ended (stopped h e) (λ anonym. ap (starts_with (closing anonym)) (drop-last s i h l) ∙ closing-last anonym _)
+  pub unclosed-tick : i < length s → get_or s i 0 ≡ 0x60 → (i + 1 < length s → get_or s (i + 1) 0 ≡ 0x5F → ⊥) → Unclosed s i
+  unclosed-tick h e f = ⊎_elim other last (lt-or-le (i + 1) (length s))
+    where
+      other : i + 1 < length s → Unclosed s i
+      other l = ended (stopped h e) (λ anonym. ap (starts_with (closing anonym)) (drop-two s i l) ∙ closing-other anonym _ _ _ (f l))
 
-  pub unclosed-other : i + 1 < length s → get_or s i 0 ≡ 0x60 → (get_or s (i + 1) 0 ≡ 0x5F → ⊥) → Unclosed s i
-  unclosed-other h e f =
-      ended (stopped (omega arith) e) (λ anonym. ap (starts_with (closing anonym)) (drop-two s i h) ∙ closing-other anonym _ _ _ f)
+      last : length s ≤ i + 1 → Unclosed s i
+      last l = ended (stopped h e) (λ anonym. ap (starts_with (closing anonym)) (drop-last s i h l) ∙ closing-last anonym _)
 
 -- What is found at a place.
 
 -- where no backticked run begins there is no embedded link
-embedded-refused : (s : List ℕ) → ((anonym : Bool) → backticked_of anonym s ≡ Refused) → tried rst.embedded s ≡ nothing
+embedded-refused : (s : List ℕ) → ((anonym : Bool) → backticked_of anonym s ≡ None) → tried rst.embedded s ≡ nothing
 embedded-refused s f =
     tried-next anonymous (named ∷ []) s (text2dest-refused s (f true)) ∙ tried-next named [] s (text-label2dest-refused s (f false))
 
 -- and no reference, if it is a backtick that begins none; a backtick is no opening that is skipped
-quoted-refused : (spaced : Bool) (r : List ℕ) → backticked_of false (0x60 ∷ r) ≡ Refused → reference_at rst spaced (0x60 ∷ r) ≡ nothing
+quoted-refused : (spaced : Bool) (r : List ℕ) → backticked_of false (0x60 ∷ r) ≡ None → reference_at rst spaced (0x60 ∷ r) ≡ nothing
 unfolding opening_of is_opening
 quoted-refused true r e = ap (behind 0) (tried-next reference [] (0x60 ∷ r) (text2label-refused r e))
 quoted-refused false r e = refl
@@ -202,7 +209,7 @@ module _ (spaced : Bool) (s : List ℕ) (i : ℕ) (h : i < length s) where
   pub shut-inline : (n : ℕ) → Shut i n s → i < n → get_or s i 0 ≡ 0x60 → inline_at rst spaced (drop i s) ≡ nothing
   shut-inline n f l e = unlinked-inline (embedded-refused (drop i s) shut) ∙ ap (followed rst (drop i s)) (ap (reference_at rst spaced) is ∙ quoted-refused spaced _ (ap (backticked_of false) (sym is) ∙ shut false))
     where
-      shut : (anonym : Bool) → backticked_of anonym (drop i s) ≡ Refused
+      shut : (anonym : Bool) → backticked_of anonym (drop i s) ≡ None
       shut = f i (le_refl i) l e
 
       is : drop i s ≡ 0x60 ∷ drop (i + 1) s

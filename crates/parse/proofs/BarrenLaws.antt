@@ -2,18 +2,18 @@
 -- backtick on the way has an escape before it, so that a link there were one at the first backtick too; and where before the next
 -- unescaped backtick no unescaped < stands, or two do.
 -- Assumes nothing.
+use Rattle.std.proofs.Common.{Some}
 use Prim.Native.Nat.{ℕ, zero, suc, ◌+◌, ◌-◌, ◌<◌, ◌≤◌}
 use native.Mathlib.Omega.{arith}
 use mathlib.Core.Path.{◌≡◌, refl, sym, ap, subst, ◌∙◌}
 use mathlib.Core.List.{List, [], ◌∷◌}
-use mathlib.Core.Bool.{Bool, true, false}
+use mathlib.Core.Bool.{Bool, true, false, true≢false}
 use lib.ListN.{length, get_or, drop, take, length-drop, take-append-drop}
 use lib.Seq.{drop-drop, drop-cons, get_or-drop, length-take-le}
 use mathlib.Core.Logic.{⊎_elim}
-use borrow.Author.Tests.{eq-eqb, ne_eqb}
+use borrow.Author.Tests.{eq-eqb}
 use Rattle.rst_bytes.specs.Escaped.{is_stop, taking, escaped_of}
-use Rattle.rst_bytes.specs.declared.Part.TheVariants.{Taken}
-use Rattle.rst_bytes.proofs.EscapedLaws.{first-other, at-end, at-stop, stop_is, taking-stop, taking-le, cut-front, cut-rest}
+use Rattle.rst_bytes.proofs.EscapedLaws.{first-other, at-stop, stop_is, taking-stop, taking-le, cut-front, cut-rest}
 use Rattle.rst_bytes.proofs.TestLaws.{lt-or-le}
 use Rattle.rst_bytes.proofs.TrimLaws.{trim-behind}
 use Rattle.restructured_text.specs.Strings.{Link, link, none, no_room}
@@ -57,49 +57,34 @@ module _ (s : List ℕ) where
 at_tick : (s : List ℕ) (i : ℕ) → i < length s → get_or s i 0 ≡ 0x60 → drop i s ≡ 0x60 ∷ drop (suc i) s
 at_tick s i h e = drop-cons s i 0 h ∙ ap (λ (b : ℕ). b ∷ drop (suc i) s) e
 
--- the same of what stands from there on
-pub tick-front : (s t : List ℕ) (i : ℕ) → t ≡ drop i s → i < length s → get_or s i 0 ≡ 0x60 → (0 < length t) × (get_or t 0 0 ≡ 0x60)
-tick-front s t i e h f =
-    let z : i + 0 ≡ i = omega arith in
-    (omega (arith, ap length e, length-drop i s), ap (λ (x : List ℕ). get_or x 0 0) e ∙ get_or-drop i s 0 0 ∙ ap (λ (j : ℕ). get_or s j 0) z ∙ f)
-
--- a backtick and < stop, a backslash does not
+-- a backtick stops, a backslash does not
 tick-stops : (b : ℕ) → b ≡ 0x60 → is_stop 0x60 0x3C b ≡ true
 unfolding is_stop
 tick-stops b e = simp (eq-eqb b 0x60 e)
-
-angle-stops : (b : ℕ) → b ≡ 0x3C → is_stop 0x60 0x3C b ≡ true
-unfolding is_stop
-angle-stops b e = rw e refl
 
 slash-passes : is_stop 0x60 0x3C 0x5C ≡ false
 unfolding is_stop
 slash-passes = refl
 
--- How many bytes stand before the first of these, by the code's tests.
-module _ (s : List ℕ) where
-  pub marked-end : length s ≡ 0 → Taken 0 ≡ taking 0x60 0x3C false 0 s
-  marked-end h = sym (at-end 0x60 0x3C s 0 (omega arith))
+-- no bytes stand before the first of these where it is at the front
+pub marked-stop : (s : List ℕ) → 0 < length s → is_stop 0x60 0x3C (get_or s 0 0) ≡ true → Some 0 ≡ taking 0x60 0x3C false 0 s
+marked-stop s h e =
+    sym (at-stop 0x60 0x3C s 0 h (λ (g : get_or s 0 0 ≡ 0x5C). absurd (true≢false (sym e ∙ ap (is_stop 0x60 0x3C) g ∙ slash-passes))) e)
 
-  module _ (h : 0 < length s) where
-    pub marked-tick : get_or s 0 0 ≡ 0x60 → Taken 0 ≡ taking 0x60 0x3C false 0 s
-    marked-tick e = sym (at-stop 0x60 0x3C s 0 h (λ (g : get_or s 0 0 ≡ 0x5C). absurd (omega (arith, e, g))) (tick-stops _ e))
-
-    pub marked-angle : get_or s 0 0 ≡ 0x3C → Taken 0 ≡ taking 0x60 0x3C false 0 s
-    marked-angle e = sym (at-stop 0x60 0x3C s 0 h (λ (g : get_or s 0 0 ≡ 0x5C). absurd (omega (arith, e, g))) (angle-stops _ e))
-
-    pub marked_other : (get_or s 0 0 ≡ 0x60 → ⊥) → (get_or s 0 0 ≡ 0x3C → ⊥) → escaped_of 0x60 0x3C s ≡ taking 0x60 0x3C false 0 s
-    unfolding is_stop
-    marked_other e f = first-other 0x60 0x3C s h (simp (ne_eqb _ _ e, ne_eqb _ _ f))
+-- and where none is
+pub marked-else : (s : List ℕ) → (0 < length s → is_stop 0x60 0x3C (get_or s 0 0) ≡ false) → escaped_of 0x60 0x3C s ≡ taking 0x60 0x3C false 0 s
+unfolding escaped_of taking
+marked-else [] f = refl
+marked-else (b ∷ s) f = first-other 0x60 0x3C (b ∷ s) (omega arith) (f (omega arith))
 
 -- n bytes of a text l are taken up to an unescaped backtick or <; a backtick stands at a place k of them.
-module _ (l : List ℕ) (n k : ℕ) (e : taking 0x60 0x3C false 0 l ≡ Taken n) (h : k < n) (f : get_or l k 0 ≡ 0x60) where
+module _ (l : List ℕ) (n k : ℕ) (e : taking 0x60 0x3C false 0 l ≡ Some n) (h : k < n) (f : get_or l k 0 ≡ 0x60) where
   some : suc k ≤ length l
   some = omega (arith, taking-le 0x60 0x3C l n e)
 
   -- a link that begins there begins at a backtick before l too
   tick-longer : (anonym : Bool) → embedded_of anonym (0x60 ∷ l) ≡ none → embedded_of anonym (0x60 ∷ drop (suc k) l) ≡ none
-  tick-longer anonym g = embedded-longer (take (suc k) l) (drop (suc k) l) (omega (arith, len)) (cut-front 0x60 0x3C slash-passes l n k h e (tick-stops _ f) ∙ ap Taken (sym len)) (λ t. omega (arith, trim-behind l t k some f, len)) anonym (ap (λ (x : List ℕ). embedded_of anonym (0x60 ∷ x)) (take-append-drop (suc k) l) ∙ g)
+  tick-longer anonym g = embedded-longer (take (suc k) l) (drop (suc k) l) (omega (arith, len)) (cut-front 0x60 0x3C slash-passes l n k h e (tick-stops _ f) ∙ ap Some (sym len)) (λ t. omega (arith, trim-behind l t k some f, len)) anonym (ap (λ (x : List ℕ). embedded_of anonym (0x60 ∷ x)) (take-append-drop (suc k) l) ∙ g)
     where
       len : length (take (suc k) l) ≡ suc k
       len = length-take-le (suc k) l some
@@ -122,18 +107,18 @@ module _ (l : List ℕ) (n k : ℕ) (e : taking 0x60 0x3C false 0 l ≡ Taken n)
       (get_or-drop (suc k) l (n - suc k) 0 ∙ ap (λ (j : ℕ). get_or l j 0) z ∙ i) o'.1 o'.2 o'.3
 
 -- no < stands before the close
-barren-unbracketed : (s : List ℕ) (n : ℕ) → taking 0x60 0x3C false 0 s ≡ Taken n → n < length s → get_or s n 0 ≡ 0x60 → Barren 0 n s
+barren-unbracketed : (s : List ℕ) (n : ℕ) → taking 0x60 0x3C false 0 s ≡ Some n → n < length s → get_or s n 0 ≡ 0x60 → Barren 0 n s
 barren-unbracketed s n e h f i k l g =
     ap (tried rst.embedded) (at_tick s i (omega arith) g) ∙ unlinked (0x60 ∷ drop (suc i) s) (tick-unbracketed s n i e l g h f)
 
 -- two do
-barren-opened : (s : List ℕ) (n : ℕ) → taking 0x60 0x3C false 0 s ≡ Taken n → n < length s → get_or s n 0 ≡ 0x3C → Opened (drop (n + 1) s) → Barren 0 n s
+barren-opened : (s : List ℕ) (n : ℕ) → taking 0x60 0x3C false 0 s ≡ Some n → n < length s → get_or s n 0 ≡ 0x3C → Opened (drop (n + 1) s) → Barren 0 n s
 barren-opened s n e h f o i k l g =
     ap (tried rst.embedded) (at_tick s i (omega arith) g) ∙ unlinked (0x60 ∷ drop (suc i) s) (tick-opened s n i e l g h f o)
 
 -- none begins at the front, a backtick, if an unescaped one stands before the first <
 pub unbracketed-none :
-    (s : List ℕ) (n : ℕ) → (0 < length s) × (get_or s 0 0 ≡ 0x60) → taking 0x60 0x3C false 0 (drop 1 s) ≡ Taken n → n + 1 < length s → get_or s (n + 1) 0 ≡ 0x60
+    (s : List ℕ) (n : ℕ) → (0 < length s) × (get_or s 0 0 ≡ 0x60) → taking 0x60 0x3C false 0 (drop 1 s) ≡ Some n → n + 1 < length s → get_or s (n + 1) 0 ≡ 0x60
     → NoLink s
 unbracketed-none s n h e l f =
     let z : 1 + n ≡ n + 1 = omega arith in
@@ -143,7 +128,7 @@ unbracketed-none s n h e l f =
 
 -- A text that begins with a backtick, at which no link begins.
 module _ (s : List ℕ) (h : (0 < length s) × (get_or s 0 0 ≡ 0x60)) (none-there : NoLink s) where
-  pub barren-first : (n : ℕ) → taking 0x60 0x3C false 0 (drop 1 s) ≡ Taken n → Barren 0 (n + 1) s
+  pub barren-first : (n : ℕ) → taking 0x60 0x3C false 0 (drop 1 s) ≡ Some n → Barren 0 (n + 1) s
   barren-first n e zero k l g = none-there
   barren-first n e (suc i) k l g =
       let le = taking-le 0x60 0x3C (drop 1 s) n e in
@@ -168,7 +153,7 @@ barren-over s j n f b g i k l e =
     (lt-or-le i j)
 
 -- The loop of `unbracketed`: what is known up to place i, and what stands from there on, t, of which n bytes are taken.
-module _ (s : List ℕ) (i : ℕ) (f : Barren 0 i s) (t : List ℕ) (it : t ≡ drop i s) (n : ℕ) (e : taking 0x60 0x3C false 0 t ≡ Taken n) (h : i + n < length s) where
+module _ (s : List ℕ) (i : ℕ) (f : Barren 0 i s) (t : List ℕ) (it : t ≡ drop i s) (n : ℕ) (e : taking 0x60 0x3C false 0 t ≡ Some n) (h : i + n < length s) where
   within : n < length t
   within = omega (arith, ap length it, length-drop i s)
 
@@ -191,7 +176,3 @@ module _ (s : List ℕ) (i : ℕ) (f : Barren 0 i s) (t : List ℕ) (it : t ≡ 
       behind =
           let z : i + (n + 1) ≡ i + n + 1 = omega arith in
           sym (ap (drop (n + 1)) it ∙ drop-drop (n + 1) i s ∙ ap (λ (j : ℕ). drop j s) z)
-
--- < is the first of the two
-pub opened-at : (s : List ℕ) (n : ℕ) → taking 0x60 0x3C false 0 s ≡ Taken n → n < length s → get_or s n 0 ≡ 0x3C → Opened s
-opened-at s n e h f = (n, e, h, f)

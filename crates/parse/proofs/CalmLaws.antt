@@ -24,7 +24,7 @@ use Rattle.restructured_text.proofs.CalmLaws.{calm-drop, calm-text2dest, calm-te
 use Rattle.parse.specs.Link.{Scanned, nothing, behind, or_else}
 use Rattle.parse.specs.Forms.{alias, destination, anonymous, named, reference, tried, rst}
 use Rattle.parse.specs.Scan.{later, is_lf, lfs_of, is_opening, opening_of, reference_at, block_at, followed, inline_at, is_start, is_plain, passed_of, text_round, blank_round, line_round, round_of, rounds}
-use Rattle.parse.specs.Inner.{Without, Calm, Lineless, Behind, Edge, Skips}
+use Rattle.parse.specs.Inner.{Calm, Lineless, Behind, Edge, Skips}
 use Rattle.parse.proofs.FormsLaws.{tried-next}
 use Rattle.parse.proofs.ScanLaws.{later-stops, later-passes, rounds-end, rst-consuming}
 use Rattle.parse.proofs.RoundLaws.{or_go, round-at, blank-at}
@@ -316,17 +316,10 @@ pub gap-skips : (s : List ℕ) (i j : ℕ) → i ≤ j → Behind is_space j s �
 gap-skips s i j h w q o =
     skips s j (omega (arith, w.0)) (inr (w.0, w.1, w.2, rw w.3 (or-true (is_lf (get_or s j 0))))) false i h q (inr (refl, o))
 
--- The loops of calm.rt, by the code's tests.
-pub without-none : (f : ℕ → Bool) (i : ℕ) (s : List ℕ) → Without f i i s
-without-none f i s k a b = absurd (omega arith)
+-- The last place r from i to k at which a line or a word ends, or i: up to it the text is passed, where it is calm up to k.
+module _ (s : List ℕ) (i k r : ℕ) (h : k ≤ length s) (q : Calm i k s) where
+  pub lines-skip : (i ≤ r) × (r ≤ k) × (i < r → Behind is_lf r s) → (start : Bool) → Skips start i r s
+  lines-skip (a, b, f) start = (a, omega arith, λ d. (calm-skips s r (omega arith) (inr (f d)) i a (λ n x y. q n x (omega arith)) start).2 d)
 
-pub skips-none : (start : Bool) (i : ℕ) (s : List ℕ) → i ≤ length s → Skips start i i s
-skips-none start i s h = (le_refl i, h, λ d. absurd (omega arith))
-
--- one byte more that does not pass the test
-pub without-next : (f : ℕ → Bool) (i j : ℕ) (s : List ℕ) → Without f i j s → f (get_or s j 0) ≡ false → Without f i (j + 1) s
-without-next f i j s q e k a b =
-    ⊎_elim (λ c. q k a c) (λ c. let z : k ≡ j = omega arith in ap (λ (n : ℕ). f (get_or s n 0)) z ∙ e) (lt-or-le k j)
-
-pub calm-join : (i j k : ℕ) (s : List ℕ) → Calm i j s → Calm j k s → Calm i k s
-calm-join i j k s q r n a b = ⊎_elim (λ c. q n a c) (λ c. r n c b) (lt-or-le n j)
+  pub words-skip : Lineless i k s → (i ≤ r) × (r ≤ k) × (i < r → Behind is_space r s) → Skips false i r s
+  words-skip o (a, b, f) = (a, omega arith, λ d. (gap-skips s i r a (f d) (λ n x y. q n x (omega arith)) (λ n x y. o n x (omega arith))).2 d)

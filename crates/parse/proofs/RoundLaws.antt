@@ -1,26 +1,26 @@
 -- The laws of one round at a place of a text s, by the tests of the code: what each step of specs/Scan.antt gives there, with places
 -- counted from the front of s. A step at place i of what stands at place n of s is a step at place n + i of s.
 -- Assumes nothing.
-use Prim.Native.Nat.{ℕ, ◌+◌, ◌-◌, ◌<◌, ◌≤◌}
+use Rattle.std.proofs.Common.{Option, Some, None, Result}
+use Rattle.std.specs.Option.{ok_or}
+use Rattle.restructured_text.specs.declared.ParseError.{ParseError}
+use Rattle.restructured_text.specs.declared.ParseError.TheVariants.{NotFound}
+use Prim.Native.Nat.{ℕ, ◌+◌, ◌<◌, ◌≤◌}
 use mathlib.Core.Path.{◌≡◌, refl, sym, ap, ◌∙◌}
 use mathlib.Core.List.{List, []}
-use mathlib.Core.Bool.{Bool, true, false, ◌||◌, or-false, or-true}
+use mathlib.Core.Bool.{Bool, true, false, cond, ◌||◌, or-false, or-true}
 use native.Mathlib.Omega.{arith}
-use native.Mathlib.Nat.{add_assoc, add-zero}
+use native.Mathlib.Nat.{add_assoc}
 use lib.Dec.{ltb, eqb}
-use lib.ListN.{length, drop, take, get_or, length-drop}
+use lib.ListN.{length, drop, get_or, length-drop}
 use lib.Seq.{drop-drop}
 use borrow.Author.Tests.{eqb-true, eqb-false, lt-ltb, le-ltb}
-use Rattle.rst_bytes.specs.declared.Part.{Part}
-use Rattle.rst_bytes.specs.declared.Part.TheVariants.{Taken, Refused}
 use Rattle.rst_bytes.specs.Line.{is_space, bytes_from, space0_of, space1_of}
-use Rattle.rst_bytes.proofs.Lists.{drop-next, drop-end, part-from}
+use Rattle.rst_bytes.proofs.Lists.{drop-next, drop-end}
 use Rattle.rst_bytes.proofs.LineLaws.{bytes-within, space1-none, space1-some}
 use Rattle.parse.specs.declared.Link.{Link}
 use Rattle.parse.specs.declared.Link.TheVariants.{Text2Dest, TextLabel2Dest, Text2Label, Label2Dest, Label2Label}
-use Rattle.parse.specs.declared.Scan.{Scan}
-use Rattle.parse.specs.declared.Scan.TheVariants.{Found, NotFound, NoRoom}
-use Rattle.parse.specs.Link.{Kind, Scanned, found, nothing, no_room, behind, or_else, link_of, scanned_of, lent}
+use Rattle.parse.specs.Link.{Kind, Scanned, found, nothing, no_room, behind, or_else, link_of, found_of, scanned_of, lent}
 use Rattle.parse.specs.Forms.{Forms, tried, rst}
 use Rattle.parse.specs.Laws.{Inside}
 use Rattle.parse.proofs.ScanLaws.{pass_of, inline-inside, later-stops, later-passes, rst-consuming}
@@ -46,9 +46,8 @@ use Rattle.parse.specs.Scan.{
   round_of,
   rounds,
 }
-use Rattle.parse.specs.declared.Known.{Known}
-use Rattle.parse.specs.declared.rounds.Step.{Step}
-use Rattle.parse.specs.declared.rounds.Step.TheVariants.{Stops, Passes}
+use Rattle.std.specs.declared.ops.ControlFlow.{ControlFlow}
+use Rattle.std.specs.declared.ops.ControlFlow.TheVariants.{Break, Continue}
 use Rattle.parse.specs.Inner.{step_of}
 
 -- what stands behind i and then m bytes stands behind both
@@ -80,14 +79,14 @@ nothing-room : nothing ≡ no_room → ⊥
 nothing-room e = let z : ◌≡◌ {A = ℕ} 0 1 = cc in omega arith
 
 -- a link, whichever case it is, is found
-link-nothing : (x : Link) (d : List ℕ) → link_of x d ≡ nothing → ⊥
+pub link-nothing : (x : Link) (d : List ℕ) → link_of x d ≡ nothing → ⊥
 link-nothing (Text2Dest a b m n) d e = found_nothing _ _ _ _ _ e
 link-nothing (TextLabel2Dest a b m n) d e = found_nothing _ _ _ _ _ e
 link-nothing (Text2Label a b m n) d e = found_nothing _ _ _ _ _ e
 link-nothing (Label2Dest a b m n) d e = found_nothing _ _ _ _ _ e
 link-nothing (Label2Label a b m n) d e = found_nothing _ _ _ _ _ e
 
-link-room : (x : Link) (d : List ℕ) → link_of x d ≡ no_room → ⊥
+pub link-room : (x : Link) (d : List ℕ) → link_of x d ≡ no_room → ⊥
 link-room (Text2Dest a b m n) d e = found-room _ _ _ _ _ e
 link-room (TextLabel2Dest a b m n) d e = found-room _ _ _ _ _ e
 link-room (Text2Label a b m n) d e = found-room _ _ _ _ _ e
@@ -95,8 +94,13 @@ link-room (Label2Dest a b m n) d e = found-room _ _ _ _ _ e
 link-room (Label2Label a b m n) d e = found-room _ _ _ _ _ e
 
 -- an answer that is known to be x says what x says
-pub is-scanned : {r x : Scan} → r ≡ x → (d : List ℕ) → scanned_of x d ≡ scanned_of r d
-is-scanned e d = ap (λ (y : Scan). scanned_of y d) (sym e)
+pub is-scanned : {r x : Option Link} → r ≡ x → (d : List ℕ) → found_of x d ≡ found_of r d
+is-scanned e d = ap (λ (y : Option Link). found_of y d) (sym e)
+
+-- what is found, as the scanner's answer
+pub scanned_is : (x : Option Link) (r : Result Link ParseError) (d : List ℕ) → r ≡ ok_or x NotFound → scanned_of r d ≡ found_of x d
+scanned_is (Some x) r d e = ap (λ (y : Result Link ParseError). scanned_of y d) e
+scanned_is None r d e = ap (λ (y : Result Link ParseError). scanned_of y d) e
 
 -- What was looked for first, z, stands behind i bytes of the text: it ends the scan if it is a link, else r is what comes.
 abbrev pub or_go : Scanned → Round → Round
@@ -112,11 +116,6 @@ go-nothing i (found k u v m n) r e = absurd (found_nothing _ _ _ _ _ (sym e))
 go-nothing i nothing r e = refl
 go-nothing i no_room r e = absurd (nothing-room e)
 
-go-room : (i : ℕ) (z : Scanned) (r : Round) → no_room ≡ behind i z → ends no_room ≡ later i (or_go z r)
-go-room i (found k u v m n) r e = absurd (found-room _ _ _ _ _ (sym e))
-go-room i nothing r e = absurd (nothing-room (sym e))
-go-room i no_room r e = refl
-
 -- (d) and (e): a link of (d) is the answer; where there is none, it is that of (e)
 module _ (i : ℕ) (u : List ℕ) where
   else-found : (z w : Scanned) (x : Link) (d : List ℕ) → link_of x d ≡ behind i (followed rst u z) → link_of x d ≡ behind i (followed rst u (or_else z w))
@@ -129,24 +128,15 @@ module _ (i : ℕ) (u : List ℕ) where
   else-nothing nothing w y e f = f
   else-nothing no_room w y e f = absurd (nothing-room e)
 
-  else-room : (z w : Scanned) → no_room ≡ behind i (followed rst u z) → no_room ≡ behind i (followed rst u (or_else z w))
-  else-room (found k x v m n) w e = absurd (found-room _ _ _ _ _ (sym e))
-  else-room nothing w e = absurd (nothing-room (sym e))
-  else-room no_room w e = refl
-
   module _ (spaced : Bool) where
-    module _ (r : Scan) (d : List ℕ) (e : scanned_of r d ≡ behind i (followed rst u (tried rst.embedded u))) where
-      pub inline-embedded : (x : Link) → r ≡ Found x → scanned_of r d ≡ behind i (inline_at rst spaced u)
+    module _ (r : Option Link) (d : List ℕ) (e : found_of r d ≡ behind i (followed rst u (tried rst.embedded u))) where
+      pub inline-embedded : (x : Link) → r ≡ Some x → found_of r d ≡ behind i (inline_at rst spaced u)
       unfolding inline_at
       inline-embedded x f = sym (is-scanned f d) ∙ else-found (tried rst.embedded u) (reference_at rst spaced u) x d (is-scanned f d ∙ e)
 
-      pub inline-reference : (y : Scanned) → r ≡ NotFound → y ≡ behind i (followed rst u (reference_at rst spaced u)) → y ≡ behind i (inline_at rst spaced u)
+      pub inline-reference : (y : Scanned) → r ≡ None → y ≡ behind i (followed rst u (reference_at rst spaced u)) → y ≡ behind i (inline_at rst spaced u)
       unfolding inline_at
       inline-reference y f g = else-nothing (tried rst.embedded u) (reference_at rst spaced u) y (is-scanned f d ∙ e) g
-
-      pub inline-room : r ≡ NoRoom → scanned_of r d ≡ behind i (inline_at rst spaced u)
-      unfolding inline_at
-      inline-room f = sym (is-scanned f d) ∙ else-room (tried rst.embedded u) (reference_at rst spaced u) (is-scanned f d ∙ e)
 
     -- where neither finds a link, (d) does not
     pub inline-unlinked : nothing ≡ behind i (inline_at rst spaced u) → tried rst.embedded u ≡ nothing
@@ -159,14 +149,10 @@ module _ (i : ℕ) (u : List ℕ) where
         go no_room q f = absurd (nothing-room f)
 
     -- (d) to (f)
-    module _ (r : Scan) (d : List ℕ) (e : scanned_of r d ≡ behind i (inline_at rst spaced u)) where
-      pub text-found : (x : Link) → r ≡ Found x → ends (scanned_of r d) ≡ later i (text_round rst spaced u)
+    module _ (r : Option Link) (d : List ℕ) (e : found_of r d ≡ behind i (inline_at rst spaced u)) where
+      pub text-found : (x : Link) → r ≡ Some x → ends (found_of r d) ≡ later i (text_round rst spaced u)
       unfolding text_round
       text-found x f = ap ends (sym (is-scanned f d)) ∙ go-found i (inline_at rst spaced u) (passed_of u) x d (is-scanned f d ∙ e)
-
-      pub text-room : r ≡ NoRoom → ends (scanned_of r d) ≡ later i (text_round rst spaced u)
-      unfolding text_round
-      text-room f = ap ends (sym (is-scanned f d)) ∙ go-room i (inline_at rst spaced u) (passed_of u) (is-scanned f d ∙ e)
 
     pub text-passed : (j : ℕ) → nothing ≡ behind i (inline_at rst spaced u) → later i (passed_of u) ≡ passes j → passes j ≡ later i (text_round rst spaced u)
     unfolding text_round
@@ -174,18 +160,14 @@ module _ (i : ℕ) (u : List ℕ) where
 
   -- (b) to (f)
   module _ (line : Bool) where
-    module _ (r : Scan) (d : List ℕ) (e : scanned_of r d ≡ behind i (block_at rst line u)) where
-      pub line-found : (x : Link) → r ≡ Found x → ends (link_of x d) ≡ later i (line_round rst line u)
+    module _ (r : Option Link) (d : List ℕ) (e : found_of r d ≡ behind i (block_at rst line u)) where
+      pub line-found : (x : Link) → r ≡ Some x → ends (found_of r d) ≡ later i (line_round rst line u)
       unfolding line_round
-      line-found x f = go-found i (block_at rst line u) (blank_round rst line u) x d (is-scanned f d ∙ e)
+      line-found x f = ap ends (sym (is-scanned f d)) ∙ go-found i (block_at rst line u) (blank_round rst line u) x d (is-scanned f d ∙ e)
 
-      pub line-blank : r ≡ NotFound → later i (blank_round rst line u) ≡ later i (line_round rst line u)
-      unfolding line_round
-      line-blank f = go-nothing i (block_at rst line u) (blank_round rst line u) (is-scanned f d ∙ e)
-
-      pub line-room : r ≡ NoRoom → ends no_room ≡ later i (line_round rst line u)
-      unfolding line_round
-      line-room f = go-room i (block_at rst line u) (blank_round rst line u) (is-scanned f d ∙ e)
+    pub line-blank : nothing ≡ behind i (block_at rst line u) → later i (blank_round rst line u) ≡ later i (line_round rst line u)
+    unfolding line_round
+    line-blank e = go-nothing i (block_at rst line u) (blank_round rst line u) e
 
 -- (e) behind o bytes that are skipped
 reference-at : (s : List ℕ) (i o : ℕ) → opening_of (drop i s) ≡ o → behind (i + o) (followed rst (drop (i + o) s) (tried rst.references (drop (i + o) s))) ≡ behind i (followed rst (drop i s) (reference_at rst true (drop i s)))
@@ -205,12 +187,12 @@ module _ (s : List ℕ) (i : ℕ) (h : i < length s) where
   unfolding opening_of
   opening-none e = rw (drop-next s i h) (rw (e, opening_of) refl)
 
-  -- (e) behind one of the openings, and where there is none
-  pub reference-opened : is_opening (get_or s i 0) ≡ true → behind (i + 1) (followed rst (drop (i + 1) s) (tried rst.references (drop (i + 1) s))) ≡ behind i (followed rst (drop i s) (reference_at rst true (drop i s)))
-  reference-opened e = reference-at s i 1 (opening-one e)
-
-  pub reference-plain : is_opening (get_or s i 0) ≡ false → behind i (followed rst (drop i s) (tried rst.references (drop i s))) ≡ behind i (followed rst (drop i s) (reference_at rst true (drop i s)))
-  reference-plain e = ap (λ (n : ℕ). behind n (followed rst (drop n s) (tried rst.references (drop n s)))) (sym (add-zero i)) ∙ reference-at s i 0 (opening-none e)
+  -- (e) behind one of the openings if there is one
+  pub reference-opened :
+      (n : ℕ) (b : Bool) → b ≡ is_opening (get_or s i 0) → n ≡ cond b 1 0
+      → behind (i + n) (followed rst (drop (i + n) s) (tried rst.references (drop (i + n) s))) ≡ behind i (followed rst (drop i s) (reference_at rst true (drop i s)))
+  reference-opened n true e f = reference-at s i n (opening-one (sym e) ∙ sym f)
+  reference-opened n false e f = reference-at s i n (opening-none (sym e) ∙ sym f)
 
 -- (d) to (f) at the end
 pub text-end : (spaced : Bool) (s : List ℕ) (i : ℕ) → length s ≤ i → ends nothing ≡ later i (text_round rst spaced (drop i s))
@@ -241,14 +223,14 @@ round-at start s i =
 
 -- (c) where blanks are taken, and where there are none
 module _ (line : Bool) (u : List ℕ) where
-  abbrev blanks_then : Part → Round
-  blanks_then p = elim p [ Taken n ↦ later n (text_round rst true (drop n u)) | Refused ↦ text_round rst line u ]
+  abbrev blanks_then : Option ℕ → Round
+  blanks_then p = elim p [ Some n ↦ later n (text_round rst true (drop n u)) | None ↦ text_round rst line u ]
 
-  blank_none : space1_of u ≡ Refused → blank_round rst line u ≡ text_round rst line u
+  blank_none : space1_of u ≡ None → blank_round rst line u ≡ text_round rst line u
   unfolding blank_round
   blank_none e = ap blanks_then e
 
-  blank-some : (m : ℕ) → space1_of u ≡ Taken m → blank_round rst line u ≡ later m (text_round rst true (drop m u))
+  blank-some : (m : ℕ) → space1_of u ≡ Some m → blank_round rst line u ≡ later m (text_round rst true (drop m u))
   unfolding blank_round
   blank-some m e = ap blanks_then e
 
@@ -277,47 +259,41 @@ blank-at line s a = go (eqb m 0) refl
         ∙ ap (λ (l : List ℕ). later (a + m) (text_round rst true l)) (drop-drop m a s)
         ∙ ap (λ (b : Bool). at (a + m) b) (sym (ap (λ (b : Bool). line || b) (lt-ltb 0 m (omega arith)) ∙ or-true line))
 
--- The same in the code's form: the counts are those of `&s[i..]`, and a start is told by a test.
-module _ (s : List ℕ) (i n : ℕ) (h : i ≤ length s) where
+-- The same in the code's form: the counts are those of what stands at place i, r, and a start is told by a test.
+module _ (s r : List ℕ) (i n : ℕ) (h : i ≤ length s) (q : r ≡ drop i s) where
   counted-le : (f : ℕ → Bool) → n ≡ bytes_from f 0 (drop i s) → i + n ≤ length s
   counted-le f e = omega (arith, e, bytes-within f (drop i s), length-drop i s)
 
-  module _ (e : n ≡ lfs_of (take (length s - i) (drop i s))) where
-    lfs-is : n ≡ lfs_of (drop i s)
-    lfs-is = e ∙ ap lfs_of (part-from s i)
-
+  module _ (e : n ≡ lfs_of r) where
     pub lfs-le : i + n ≤ length s
-    lfs-le = counted-le is_lf lfs-is
+    lfs-le = counted-le is_lf (e ∙ ap lfs_of q)
 
     pub round-lines : (start line : Bool) → line ≡ (start || ltb 0 n) → later (i + n) (line_round rst line (drop (i + n) s)) ≡ later i (round_of rst start (drop i s))
     round-lines start line f =
         ap (λ (b : Bool). later (i + n) (line_round rst b (drop (i + n) s))) f
-        ∙ ap (λ (m : ℕ). later (i + m) (line_round rst (start || ltb 0 m) (drop (i + m) s))) lfs-is
+        ∙ ap (λ (m : ℕ). later (i + m) (line_round rst (start || ltb 0 m) (drop (i + m) s))) (e ∙ ap lfs_of q)
         ∙ sym (round-at start s i)
 
-  module _ (e : n ≡ space0_of (take (length s - i) (drop i s))) where
-    blanks-is : n ≡ space0_of (drop i s)
-    blanks-is = e ∙ ap space0_of (part-from s i)
-
+  module _ (e : n ≡ space0_of r) where
     pub blanks-le : i + n ≤ length s
-    blanks-le = counted-le is_space blanks-is
+    blanks-le = counted-le is_space (e ∙ ap space0_of q)
 
     pub line-text : (line spaced : Bool) → spaced ≡ (line || ltb 0 n) → later (i + n) (text_round rst spaced (drop (i + n) s)) ≡ later i (blank_round rst line (drop i s))
     line-text line spaced f =
         ap (λ (b : Bool). later (i + n) (text_round rst b (drop (i + n) s))) f
-        ∙ ap (λ (m : ℕ). later (i + m) (text_round rst (line || ltb 0 m) (drop (i + m) s))) blanks-is
+        ∙ ap (λ (m : ℕ). later (i + m) (text_round rst (line || ltb 0 m) (drop (i + m) s))) (e ∙ ap space0_of q)
         ∙ sym (blank-at line s i)
 
 -- A round's answer at place i of s, by which case the code's is.
-module _ (start : Bool) (s : List ℕ) (i : ℕ) (h : i < length s) (r : Step) (d : List ℕ) (e : step_of r d ≡ later i (round_of rst start (drop i s))) where
-  step_is : (x : Step) → r ≡ x → later i (round_of rst start (drop i s)) ≡ step_of x d
-  step_is x f = sym e ∙ ap (λ (y : Step). step_of y d) f
+module _ (start : Bool) (s : List ℕ) (i : ℕ) (h : i < length s) (r : ControlFlow (Option Link) ℕ) (d : List ℕ) (e : step_of r d ≡ later i (round_of rst start (drop i s))) where
+  step_is : (x : ControlFlow (Option Link) ℕ) → r ≡ x → later i (round_of rst start (drop i s)) ≡ step_of x d
+  step_is x f = sym e ∙ ap (λ (y : ControlFlow (Option Link) ℕ). step_of y d) f
 
-  pub step-stops : (x : Scan) (free failed : ℕ) → r ≡ Stops x free failed → scanned_of x d ≡ rounds rst 0 start i (drop i s)
-  step-stops x free failed f = sym (later-stops rst rst-consuming start s i h (scanned_of x d) (step_is (Stops x free failed) f))
+  pub step-stops : (x : Option Link) → r ≡ Break x → found_of x d ≡ rounds rst 0 start i (drop i s)
+  step-stops x f = sym (later-stops rst rst-consuming start s i h (found_of x d) (step_is (Break x) f))
 
-  pub step-passes : (j : ℕ) (known : Known) → r ≡ Passes j known → (rounds rst 0 start i (drop i s) ≡ rounds rst 0 false j (drop j s)) × (i < j) × (j ≤ length s)
-  step-passes j known f = later-passes rst rst-consuming start s i h j (step_is (Passes j known) f)
+  pub step-passes : (j : ℕ) → r ≡ Continue j → (rounds rst 0 start i (drop i s) ≡ rounds rst 0 false j (drop j s)) × (i < j) × (j ≤ length s)
+  step-passes j f = later-passes rst rst-consuming start s i h j (step_is (Continue j) f)
 
 -- The scratch d of a text s is too short, or long enough.
 module _ (s d : List ℕ) (x : Scanned) where

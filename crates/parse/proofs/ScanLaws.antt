@@ -1,6 +1,7 @@
 -- The laws of `specs/Scan.antt`, for any forms that consume at least one byte and no more than there are: a round ends within the
 -- input or passes some of it; so the rounds end, and by the round at a place they give its link or go on behind what it passed.
 -- Assumes nothing.
+use Rattle.std.proofs.Common.{Option, Some, None}
 use Prim.Native.Nat.{ℕ, zero, suc, ◌+◌, ◌-◌, ◌<◌, ◌≤◌}
 use native.Mathlib.Nat.{not-suc-le-zero, add-zero, zero-add}
 use native.Mathlib.Omega.{arith}
@@ -10,8 +11,6 @@ use mathlib.Core.Bool.{Bool, true, false, ◌||◌, true≢false, false≢true}
 use lib.Dec.{ltb}
 use lib.ListN.{length, drop, length-drop, drop_of_length-le}
 use lib.Seq.{drop-drop}
-use Rattle.rst_bytes.specs.declared.Part.{Part}
-use Rattle.rst_bytes.specs.declared.Part.TheVariants.{Taken, Refused}
 use Rattle.rst_bytes.specs.Line.{space1_of}
 use Rattle.rst_bytes.proofs.TestLaws.{by-test}
 use Rattle.rst_bytes.proofs.LineLaws.{bytes-within, space1-le}
@@ -161,12 +160,12 @@ module _ (forms : Forms) (c : Consuming forms) where
   blank-inside line s = go (space1_of s) refl
     where
       go :
-          (z : Part) → space1_of s ≡ z
-          → RoundInside (length s) (elim z [ Taken n ↦ later n (text_round forms true (drop n s)) | Refused ↦ text_round forms line s ])
-      go (Taken n) e =
+          (z : Option ℕ) → space1_of s ≡ z
+          → RoundInside (length s) (elim z [ Some n ↦ later n (text_round forms true (drop n s)) | None ↦ text_round forms line s ])
+      go (Some n) e =
           subst (λ m. RoundInside m (later n (text_round forms true (drop n s)))) (split n s (space1-le s n e))
           (later-inside n (length (drop n s)) (text_round forms true (drop n s)) (text-inside true (drop n s)))
-      go Refused e = text-inside line s
+      go None e = text-inside line s
 
   pub line-inside : (line : Bool) (s : List ℕ) → RoundInside (length s) (line_round forms line s)
   unfolding line_round

@@ -1,6 +1,7 @@
 -- The strings of a link that the scanner finds are no longer than what the link consumed, for any forms whose links are so; so are
 -- those of all links of a text, and whatever length the single-link call answers is at most that of the longest document.
 -- Assumes nothing.
+use Rattle.std.proofs.Common.{Option, Some, None}
 use Prim.Native.Nat.{ℕ, zero, suc, ◌+◌, ◌-◌, ◌≤◌}
 use native.Mathlib.Omega.{arith}
 use mathlib.Core.Path.{◌≡◌, refl, subst}
@@ -9,10 +10,6 @@ use mathlib.Core.Bool.{Bool, true, false, ◌||◌}
 use lib.Dec.{ltb}
 use lib.ListN.{length, drop, length-drop}
 use borrow.Author.Tests.{ltb-false}
-use Rattle.rst_bytes.specs.declared.Part.{Part}
-use Rattle.rst_bytes.specs.declared.Part.TheVariants.{Taken, Refused}
-use Rattle.rst_bytes.specs.declared.Outside.{Outside}
-use Rattle.rst_bytes.specs.declared.Outside.TheVariants.{At, Nowhere}
 use Rattle.rst_bytes.specs.Domain.{outside_of}
 use Rattle.rst_bytes.specs.Line.{space1_of}
 use Rattle.rst_bytes.proofs.TestLaws.{by-test}
@@ -113,9 +110,9 @@ module _ (forms : Forms) (b : AllSized forms.blocks) (i : AllSized forms.embedde
   unfolding blank_round
   blank-sized line s = go (space1_of s)
     where
-      go : (z : Part) → RoundSized (elim z [ Taken n ↦ later n (text_round forms true (drop n s)) | Refused ↦ text_round forms line s ])
-      go (Taken n) = later-sized n (text_round forms true (drop n s)) (text-sized true (drop n s))
-      go Refused = text-sized line s
+      go : (z : Option ℕ) → RoundSized (elim z [ Some n ↦ later n (text_round forms true (drop n s)) | None ↦ text_round forms line s ])
+      go (Some n) = later-sized n (text_round forms true (drop n s)) (text-sized true (drop n s))
+      go None = text-sized line s
 
   line-sized : (line : Bool) (s : List ℕ) → RoundSized (line_round forms line s)
   unfolding line_round
@@ -228,13 +225,13 @@ single-small s place f g =
     (λ e. read (ltb-false document_len_max (length s) e) (outside_of s) refl)
   where
     read :
-        length s ≤ document_len_max → (o : Outside) → outside_of s ≡ o
+        length s ≤ document_len_max → (o : Option ℕ) → outside_of s ≡ o
         → Small (elim o [
-          | At n ↦ refusal 4 n f g
-          | Nowhere ↦ elim (is_place place s) [ true ↦ handed f g (scan_of (drop place s)) | false ↦ refusal 8 0 f g ]
+          | Some n ↦ refusal 4 n f g
+          | None ↦ elim (is_place place s) [ true ↦ handed f g (scan_of (drop place s)) | false ↦ refusal 8 0 f g ]
         ])
-    read h (At n) e = refusal-small 4 n f g (omega (arith, outside-within s n e))
-    read h Nowhere e =
+    read h (Some n) e = refusal-small 4 n f g (omega (arith, outside-within s n e))
+    read h None e =
         by-test Small (is_place place s) _ _
         (λ e. let rest = drop place s in
         handed-small (length rest) f g (scan_of rest) (omega (arith, length-drop place s)) (scan-inside rst rst-consuming rest) (scan-sized rest))

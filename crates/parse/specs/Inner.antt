@@ -1,24 +1,21 @@
 -- What the contracts of private functions speak of: a round's answer with the place that comes next; what is known of backticks and
 -- of blocks, which `next_link` hands on too; text without links; how two strings are handed over.
 -- Assumes nothing.
+use Rattle.std.specs.Prelude.{Option, Some, None, Result, Ok, Err}
+use Rattle.restructured_text.specs.declared.ParseError.{ParseError}
+use Rattle.restructured_text.specs.declared.ParseError.TheVariants.{NotFound, NoRoom}
 use Rattle.std.specs.Prelude.{ℕ, ◌+◌, ◌-◌, ◌<◌, ◌≤◌, ◌≡◌, List, [], ◌∷◌, Bool, true, false, ◌⊎◌, ltb, length, drop, get_or}
+use Rattle.std.specs.declared.ops.ControlFlow.{ControlFlow}
+use Rattle.std.specs.declared.ops.ControlFlow.TheVariants.{Break, Continue}
 use Rattle.rst_bytes.specs.Escaped.{is_stop, taking}
 use Rattle.rst_bytes.specs.Line.{is_space}
-use Rattle.rst_bytes.specs.declared.Part.TheVariants.{Taken, Refused}
 use Rattle.restructured_text.specs.declared.Span.{Span}
 use Rattle.restructured_text.specs.Delimited.{backticked_of}
 use Rattle.parse.specs.declared.Known.{Known}
-use Rattle.parse.specs.declared.forms.Answer.{Answer}
 use Rattle.parse.specs.declared.Next.{Next}
-use Rattle.parse.specs.declared.Scan.{Scan}
-use Rattle.parse.specs.declared.Scan.TheVariants.{Found, NotFound, NoRoom}
-use Rattle.parse.specs.declared.rounds.Step.{Step}
-use Rattle.parse.specs.declared.rounds.Step.TheVariants.{Stops, Passes}
 use Rattle.parse.specs.declared.Link.{Link}
 use Rattle.parse.specs.declared.Link.TheVariants.{Text2Dest, TextLabel2Dest, Text2Label, Label2Dest, Label2Label}
-use Rattle.parse.specs.declared.buffers.Handed.{Handed}
-use Rattle.parse.specs.declared.buffers.Handed.TheVariants.{Both, TooShort}
-use Rattle.parse.specs.Link.{Kind, found, nothing, scanned_of, Ends}
+use Rattle.parse.specs.Link.{Kind, found, nothing, found_of, FoundEnds}
 use Rattle.parse.specs.Forms.{tried, rst}
 use Rattle.parse.specs.Scan.{Round, ends, passes, is_lf, is_plain, rounds}
 use Rattle.parse.specs.Single.{Outcome, refusal, acceptance, handed}
@@ -37,7 +34,7 @@ Any Claim b s = Claim s
 
 -- no part that is closed by `_ begins there
 abbrev pub NoPart : List ℕ → Type 0
-NoPart s = (anonym : Bool) → backticked_of anonym s ≡ Refused
+NoPart s = (anonym : Bool) → backticked_of anonym s ≡ None
 
 abbrev pub Shut : ℕ → ℕ → List ℕ → Type 0
 Shut m n s = Each (Tick NoPart) m n s
@@ -62,16 +59,16 @@ Barred m marks s = (k : ℕ) → get_or marks (m + k) 0 ≡ 1 → NoBlock (drop 
 
 -- the first unescaped backtick or < is <
 abbrev pub Opened : List ℕ → Type 0
-Opened s = (n : ℕ) × (taking 0x60 0x3C false 0 s ≡ Taken n) × (n < length s) × (get_or s n 0 ≡ 0x3C)
+Opened s = (n : ℕ) × (taking 0x60 0x3C false 0 s ≡ Some n) × (n < length s) × (get_or s n 0 ≡ 0x3C)
 
 -- what is known from place m on is true, with these marks of the text
 abbrev pub Holds : ℕ → Known → List ℕ → List ℕ → Type 0
 Holds m known marks s =
     Shut m known.shut s × Barren m known.barren s × Blockless m known.blocks s × Barred 0 marks s
 
--- what is told of blocks in a text by a number: where it is not 0, none begins at the front
-abbrev pub Free : ℕ → List ℕ → Type 0
-Free n s = 0 < n → NoBlock s
+-- what is known of every text
+abbrev pub nothing_known : Known
+nothing_known = record { shut = 0; barren = 0; blocks = 0; failed = 0; marked = 0 }
 
 -- a block may be long: of its line n bytes are passed, and it has more than 128, or the next line begins with a blank
 unfoldable pub long_from : ℕ → List ℕ → Bool
@@ -82,19 +79,15 @@ long_from n (b ∷ rest) =
       | false ↦ elim (ltb n 128) [ true ↦ long_from (n + 1) rest | false ↦ true ]
     ]
 
--- what is told of blocks where one was read that is none, whether it may be long or not
-abbrev pub told_of : Bool → ℕ
-told_of true = 2
-told_of false = 1
-
--- what is known, with places counted from place n on, and what is told of blocks there; whatever is counted
-abbrev pub known_from : ℕ → ℕ → ℕ → Known → Known
-known_from n free failed known =
+-- what is known, with places counted from place n on
+abbrev pub known_from : ℕ → Known → Known
+known_from n known =
     record {
       shut = known.shut - n;
       barren = known.barren - n;
-      blocks = elim (ltb 0 free) [ true ↦ 1 | false ↦ 0 ];
-      failed = failed;
+      blocks = known.blocks - n;
+      failed = known.failed;
+      marked = known.marked - n;
     }
 
 -- the place behind a link
@@ -106,49 +99,46 @@ link_end (Label2Dest a b skipped consumed) = skipped + consumed
 link_end (Label2Label a b skipped consumed) = skipped + consumed
 
 -- a link that was found ends within s
-abbrev pub EndsWithin : List ℕ → Scan → Type 0
-EndsWithin s (Found x) = link_end x ≤ length s
-EndsWithin s NotFound = Unit {0}
-EndsWithin s NoRoom = Unit {0}
+abbrev pub EndsWithin : List ℕ → Option Link → Type 0
+EndsWithin s (Some x) = link_end x ≤ length s
+EndsWithin s None = Unit {0}
 
 -- where a link of s was found, what is known is true from behind it on
-abbrev pub HoldsBehind : List ℕ → Known → List ℕ → Scan → Type 0
-HoldsBehind s known marks (Found x) = Holds (link_end x) known marks s
-HoldsBehind s known marks NotFound = Unit {0}
-HoldsBehind s known marks NoRoom = Unit {0}
+abbrev pub HoldsBehind : List ℕ → Known → List ℕ → Option Link → Type 0
+HoldsBehind s known marks (Some x) = Holds (link_end x) known marks s
+HoldsBehind s known marks None = Unit {0}
 
--- what is told of blocks behind a link of s is true; of nothing else is it told
-abbrev pub FreeBehind : List ℕ → ℕ → Scan → Type 0
-FreeBehind s free (Found x) = Free free (drop (link_end x) s)
-FreeBehind s free NotFound = free ≡ 0
-FreeBehind s free NoRoom = free ≡ 0
-
--- the same of what was looked for in t, which stands at place n of whatever text
-abbrev pub FreeFrom : ℕ → List ℕ → Answer → Type 0
-FreeFrom n t r = (s : List ℕ) → t ≡ drop n s → FreeBehind s r.free r.scan
+-- the same, and where none was found nothing was learnt
+abbrev pub Learns : List ℕ → List ℕ → Known → Known → Option Link → Type 0
+Learns s marks old new (Some x) = Holds (link_end x) new marks s
+Learns s marks old new None = new ≡ old
 
 -- what is known is true of the text behind a link, with the marks from there on
-abbrev pub TrueBehind : List ℕ → List ℕ → Known → Scan → Type 0
-TrueBehind s marks known (Found x) = Holds 0 known (drop (link_end x) marks) (drop (link_end x) s)
-TrueBehind s marks known NotFound = Unit {0}
-TrueBehind s marks known NoRoom = Unit {0}
+abbrev pub TrueBehind : List ℕ → List ℕ → Known → Result Link ParseError → Type 0
+TrueBehind s marks known (Ok x) = Holds 0 known (drop (link_end x) marks) (drop (link_end x) s)
+TrueBehind s marks known (Err NotFound) = Unit {0}
+TrueBehind s marks known (Err NoRoom) = Unit {0}
 
 abbrev pub NextHolds : List ℕ → List ℕ → Next → Type 0
 NextHolds s marks r = TrueBehind s marks r.known r.scan
 
--- what a step says, with the scratch as it was left: places count from the front of the text
-abbrev pub step_of : Step → List ℕ → Round
-step_of (Stops x free failed) scratch = ends (scanned_of x scratch)
-step_of (Passes next known) scratch = passes next
+-- a round, by what its first step says with the scratch as it was left, and by what it is if that step goes on
+abbrev pub going_on : {C : Type 0} → ControlFlow (Option Link) C → List ℕ → (C → Round) → Round
+going_on (Break x) scratch r = ends (found_of x scratch)
+going_on (Continue c) scratch r = r c
 
-abbrev pub StepEnds : Step → Type 0
-StepEnds (Stops x free failed) = Ends x
-StepEnds (Passes next known) = Unit {0}
+-- what a step says that goes on at a place: places count from the front of the text
+abbrev pub step_of : ControlFlow (Option Link) ℕ → List ℕ → Round
+step_of step scratch = going_on step scratch passes
 
--- what is told of blocks behind the link, or known from the next place on, is true
-abbrev pub StepHolds : List ℕ → List ℕ → Step → Type 0
-StepHolds s marks (Stops x free failed) = FreeBehind s free x
-StepHolds s marks (Passes next known) = Holds next known marks s
+abbrev pub StepEnds : {C : Type 0} → ControlFlow (Option Link) C → Type 0
+StepEnds (Break x) = FoundEnds x
+StepEnds (Continue c) = Unit {0}
+
+-- what is known is true from behind the link on, or from the place where it goes on
+abbrev pub StepHolds : {C : Type 0} → List ℕ → List ℕ → Known → (C → ℕ) → ControlFlow (Option Link) C → Type 0
+StepHolds s marks known place (Break x) = HoldsBehind s known marks x
+StepHolds s marks known place (Continue c) = Holds (place c) known marks s
 
 -- from place i on and before place j of s no byte passes the test
 abbrev pub Without : (ℕ → Bool) → ℕ → ℕ → List ℕ → Type 0
@@ -202,15 +192,15 @@ abbrev pub LinkWithin : ℕ → Link → Type 0
 LinkWithin n x = ((first_of x).start + (first_of x).len ≤ n) × ((second_of x).start + (second_of x).len ≤ n)
 
 -- what comes back of a link of that case, with the buffers as they were left
-abbrev pub handed_of : Kind → ℕ → ℕ → Handed → List ℕ → List ℕ → Outcome
-handed_of kind skipped consumed (Both a b) f g = acceptance kind a.len b.len skipped consumed f g
-handed_of kind skipped consumed (TooShort n) f g = refusal 7 n f g
+abbrev pub handed_of : Kind → ℕ → ℕ → Result (Span × Span) ℕ → List ℕ → List ℕ → Outcome
+handed_of kind skipped consumed (Ok (a, b)) f g = acceptance kind a.len b.len skipped consumed f g
+handed_of kind skipped consumed (Err n) f g = refusal 7 n f g
 
 -- the strings x and y of a link were handed over to the buffers f and g, which are f' and g' then: whichever case it is
-abbrev pub HandsOver : Handed → List ℕ → List ℕ → List ℕ → List ℕ → List ℕ → List ℕ → Type 0
+abbrev pub HandsOver : Result (Span × Span) ℕ → List ℕ → List ℕ → List ℕ → List ℕ → List ℕ → List ℕ → Type 0
 HandsOver r f' g' f g x y =
     (kind : Kind) (skipped consumed : ℕ) → handed_of kind skipped consumed r f' g' ≡ handed f g (found kind x y skipped consumed)
 
-abbrev pub HandedFronts : Handed → Type 0
-HandedFronts (Both a b) = (a.start ≡ 0) × (b.start ≡ 0)
-HandedFronts (TooShort n) = Unit {0}
+abbrev pub HandedFronts : Result (Span × Span) ℕ → Type 0
+HandedFronts (Ok (a, b)) = (a.start ≡ 0) × (b.start ≡ 0)
+HandedFronts (Err n) = Unit {0}

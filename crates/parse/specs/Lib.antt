@@ -41,4 +41,5 @@ pub mod Laws
 pub mod Refusal
 pub mod Single
 pub mod Inner
+pub mod Place
 pub mod Cases

@@ -4,8 +4,8 @@
 -- (f) consume one character and then up to LF, space, tab, backtick, !, [, { or <; input start ends. At the end of input (f) finds
 -- no link. After a link that is no block, a destination block standing directly there is consumed unreported."
 -- Assumes nothing.
+use Rattle.std.specs.Prelude.{Some, None}
 use Rattle.std.specs.Prelude.{ℕ, zero, suc, ◌+◌, ◌-◌, List, [], ◌∷◌, Bool, true, false, ◌||◌, not, ltb, eqb, drop}
-use Rattle.rst_bytes.specs.declared.Part.TheVariants.{Taken, Refused}
 use Rattle.rst_bytes.specs.Tests.{one_of}
 use Rattle.rst_bytes.specs.Line.{bytes_from, space1_of}
 use Rattle.parse.specs.Link.{Scanned, found, nothing, no_room, behind, or_else}
@@ -83,7 +83,7 @@ text_round forms spaced s =
 -- (c) to (f): "consume `space1`"; "(e) after (c) took blanks, or at line or input start"
 unfoldable pub blank_round : Forms → Bool → List ℕ → Round
 blank_round forms line s =
-    elim (space1_of s) [ Taken n ↦ later n (text_round forms true (drop n s)) | Refused ↦ text_round forms line s ]
+    elim (space1_of s) [ Some n ↦ later n (text_round forms true (drop n s)) | None ↦ text_round forms line s ]
 
 -- (b) to (f)
 unfoldable pub line_round : Forms → Bool → List ℕ → Round

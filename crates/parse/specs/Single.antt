@@ -1,14 +1,13 @@
 -- The single-link call: "lends two buffers, for first string (text or name) and second string (label, destination or alias target),
 -- _ unnumbered in both .. Bytes past each string keep what they held." "Single link: 2, 4, 8, 9, 7 (first string, then second)."
 -- Assumes nothing.
+use Rattle.std.specs.Prelude.{Some, None, Result, Ok, Err}
 use Rattle.std.specs.Prelude.{ℕ, ◌≡◌, List, ◌++◌, Bool, true, false, not, ltb, eqb, length, drop}
-use Rattle.rst_bytes.specs.declared.Character.TheVariants.{Starts, Nothing}
-use Rattle.rst_bytes.specs.declared.Outside.TheVariants.{At, Nowhere}
 use Rattle.rst_bytes.specs.Domain.{char_of, outside_of}
 use Rattle.parse.specs.declared.Link.{Link}
 use Rattle.parse.specs.declared.Link.TheVariants.{Text2Dest, TextLabel2Dest, Text2Label, Label2Dest, Label2Label}
-use Rattle.parse.specs.declared.Single.{Single}
-use Rattle.parse.specs.declared.Single.TheVariants.{Linked, Refused}
+use Rattle.parse.specs.declared.refusal.Refusal.{Refusal}
+use Rattle.parse.specs.Refusal.{number_of, bytes_of}
 use Rattle.parse.specs.Link.{Kind, text2dest, text-label2dest, text2label, label2dest, label2label, Scanned, found, nothing, no_room}
 use Rattle.parse.specs.Scan.{scan_of}
 
@@ -69,7 +68,7 @@ document_len_max = 16384
 -- 8, "place past the document or inside a character": in a document of the domain, no character starts inside another
 -- (rst_bytes, DomainLaws inside-at)
 abbrev pub is_inside : List ℕ → Bool
-is_inside s = elim (eqb (length s) 0) [ true ↦ false | false ↦ elim (char_of s) [ Starts n point ↦ false | Nothing ↦ true ] ]
+is_inside s = elim (eqb (length s) 0) [ true ↦ false | false ↦ elim (char_of s) [ Some (n, point) ↦ false | None ↦ true ] ]
 
 unfoldable pub is_place : ℕ → List ℕ → Bool
 is_place place s = elim (ltb (length s) place) [ true ↦ false | false ↦ not (is_inside (drop place s)) ]
@@ -98,8 +97,8 @@ single_of s place f g =
     elim (ltb document_len_max (length s)) [
       | true ↦ refusal 2 0 f g
       | false ↦ elim (outside_of s) [
-        | At n ↦ refusal 4 n f g
-        | Nowhere ↦ elim (is_place place s) [ true ↦ handed f g (scan_of (drop place s)) | false ↦ refusal 8 0 f g ]
+        | Some n ↦ refusal 4 n f g
+        | None ↦ elim (is_place place s) [ true ↦ handed f g (scan_of (drop place s)) | false ↦ refusal 8 0 f g ]
       ]
     ]
 
@@ -111,9 +110,9 @@ link_outcome (Text2Label a b skipped consumed) f g = acceptance text2label a.len
 link_outcome (Label2Dest a b skipped consumed) f g = acceptance label2dest a.len b.len skipped consumed f g
 link_outcome (Label2Label a b skipped consumed) f g = acceptance label2label a.len b.len skipped consumed f g
 
-abbrev pub outcome_of : Single → List ℕ → List ℕ → Outcome
-outcome_of (Linked x) f g = link_outcome x f g
-outcome_of (Refused number bytes) f g = refusal number bytes f g
+abbrev pub outcome_of : Result Link Refusal → List ℕ → List ℕ → Outcome
+outcome_of (Ok x) f g = link_outcome x f g
+outcome_of (Err r) f g = refusal (number_of r) (bytes_of r) f g
 
 -- the strings stand at the front of the buffers
 abbrev pub LinkFronts : Link → Type 0
@@ -123,6 +122,6 @@ LinkFronts (Text2Label a b skipped consumed) = (a.start ≡ 0) × (b.start ≡ 0
 LinkFronts (Label2Dest a b skipped consumed) = (a.start ≡ 0) × (b.start ≡ 0)
 LinkFronts (Label2Label a b skipped consumed) = (a.start ≡ 0) × (b.start ≡ 0)
 
-abbrev pub Fronts : Single → Type 0
-Fronts (Linked x) = LinkFronts x
-Fronts (Refused number bytes) = Unit {0}
+abbrev pub Fronts : Result Link Refusal → Type 0
+Fronts (Ok x) = LinkFronts x
+Fronts (Err r) = Unit {0}

@@ -1,46 +1,26 @@
 // Backticks behind which nothing is closed by a backtick and `_`. A part that runs to its end without such a close passes escaped
 // backticks only, and from each of these a part would run to the same end: none of them needs to be tried.
-ghost use Rattle.std.specs.Prelude.{◌≤◌, length};
+ghost use Rattle.std.specs.Prelude.{◌≤◌, length, IfSome};
 ghost use Rattle.parse.specs.Inner.{Shut};
 
 use rst_bytes::escaped::is_escapable;
 
-// A place before which no backtick begins a part that is closed so; 0 where the part behind the first byte, a backtick, is.
-pub fn unclosed(s: &[u8]) -> usize
-    ensures within { result ≤ length s.now }
-    ensures shut { Shut 0 result s.now }
+// A place before which no backtick begins a part that is closed so, if the part behind the first byte, a backtick, is none.
+pub fn unclosed(s: &[u8]) -> Option<usize>
+    ensures { IfSome result (λ n. (n ≤ length s.now) × Shut 0 n s.now) }
 {
-    if s.len() == 0 {
-        return 0;
-    }
     let mut i = 1;
+    // No `for`: an escape takes two bytes.
     while i < s.len() {
-        let b = s[i];
-        if b == b'`' {
-            let j = i + 1;
-            if s.len() <= j {
-                return i;
-            }
-            let c = s[j];
-            if c == b'_' {
-                return 0;
-            }
-            return i;
-        }
-        if b == b'\\' {
-            let j = i + 1;
-            if s.len() <= j {
-                return i;
-            }
-            let c = s[j];
-            if is_escapable(c) {
-                i = i + 2;
-            } else {
-                return i;
-            }
-        } else {
-            i = i + 1;
+        match s[i] {
+            b'`' if s.get(i + 1) == Some(&b'_') => return None,
+            b'`' => return Some(i),
+            b'\\' => match s.get(i + 1) {
+                Some(&c) if is_escapable(c) => i += 2,
+                _ => return Some(i),
+            },
+            _ => i += 1,
         }
     }
-    i
+    Some(s.len())
 }

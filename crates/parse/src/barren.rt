@@ -3,29 +3,29 @@
 // first backtick begins no link, none of them does. Where no `<` stands before the close none begins, and where two do none begins
 // before the first: so no part is tried more than twice.
 ghost use Rattle.std.specs.Prelude.{◌≡◌, true, false, ◌≤◌, ◌<◌, length, get_or};
-ghost use Rattle.rst_bytes.specs.Escaped.{taking};
+ghost use Rattle.rst_bytes.specs.Escaped.{is_stop, taking};
 ghost use Rattle.parse.specs.Link.{nothing};
 ghost use Rattle.parse.specs.Forms.{tried, rst};
 ghost use Rattle.parse.specs.Inner.{Barren, Opened};
 
-use rst_bytes::Part;
 use rst_bytes::escaped::escaped;
 
-// How many bytes stand before the first unescaped backtick or `<`.
-fn marked(s: &[u8]) -> Part
+// A backtick or `<`.
+#[tactic(auto, unfolding(rst_bytes::specs::Escaped::is_stop))]
+fn is_mark(b: u8) -> bool
+    ensures { result ≡ is_stop 0x60 0x3C b }
+{
+    matches!(b, b'`' | b'<')
+}
+
+// How many bytes stand before the first unescaped one of these.
+fn marked(s: &[u8]) -> Option<usize>
     ensures { result ≡ taking 0x60 0x3C false 0 s.now }
 {
-    if s.len() == 0 {
-        return Part::Taken(0);
+    match s.first() {
+        Some(&b) if is_mark(b) => Some(0),
+        _ => escaped(s, b'`', b'<'),
     }
-    let b = s[0];
-    if b == b'`' {
-        return Part::Taken(0);
-    }
-    if b == b'<' {
-        return Part::Taken(0);
-    }
-    escaped(s, b'`', b'<')
 }
 
 // Whether an embedded link may begin at the first byte, a backtick: no unescaped backtick stands before the first unescaped `<`.
@@ -34,18 +34,8 @@ pub fn is_bracketed(s: &[u8]) -> bool
     ensures { result ≡ false → tried rst.embedded s.now ≡ nothing }
 {
     match marked(&s[1..]) {
-        Part::Taken(n) => {
-            let j = n + 1;
-            if s.len() <= j {
-                return true;
-            }
-            let b = s[j];
-            if b == b'`' {
-                return false;
-            }
-            true
-        }
-        Part::Refused => true,
+        Some(n) => s.get(n + 1) != Some(&b'`'),
+        None => true,
     }
 }
 
@@ -54,17 +44,8 @@ fn is_opened(s: &[u8]) -> bool
     ensures { result ≡ true → Opened s.now }
 {
     match marked(s) {
-        Part::Taken(n) => {
-            if s.len() <= n {
-                return false;
-            }
-            let b = s[n];
-            if b == b'<' {
-                return true;
-            }
-            false
-        }
-        Part::Refused => false,
+        Some(n) => s.get(n) == Some(&b'<'),
+        None => false,
     }
 }
 
@@ -75,27 +56,18 @@ fn unbracketed(s: &[u8]) -> usize
     ensures barren { Barren 0 result s.now }
 {
     let mut i = 0;
+    // No `for`: a turn takes as many bytes as stand before the next `<`.
     while i < s.len() {
         match marked(&s[i..]) {
-            Part::Taken(n) => {
+            Some(n) => {
                 let j = i + n;
-                if s.len() <= j {
-                    return i;
-                }
-                let b = s[j];
-                if b == b'`' {
-                    return j;
-                }
-                let k = j + 1;
-                if is_opened(&s[k..]) {
-                    i = k;
-                } else {
-                    return i;
+                match s.get(j) {
+                    Some(b'`') => return j,
+                    Some(_) if is_opened(&s[j + 1..]) => i = j + 1,
+                    _ => return i,
                 }
             }
-            Part::Refused => {
-                return i;
-            }
+            None => return i,
         }
     }
     i
@@ -109,18 +81,14 @@ pub fn barren(s: &[u8]) -> usize
     ensures barren { Barren 0 result s.now }
 {
     match marked(&s[1..]) {
-        Part::Taken(n) => {
+        Some(n) => {
             let j = n + 1;
-            if s.len() <= j {
-                return j;
+            if s.get(j) == Some(&b'<') {
+                j + 1 + unbracketed(&s[j + 1..])
+            } else {
+                j
             }
-            let b = s[j];
-            if b == b'`' {
-                return j;
-            }
-            let k = j + 1;
-            k + unbracketed(&s[k..])
         }
-        Part::Refused => 0,
+        None => 0,
     }
 }

@@ -5,9 +5,8 @@ ghost use Rattle.parse.specs.Link.{link_of};
 ghost use Rattle.parse.specs.Single.{is_place, handed, outcome_of, Fronts};
 ghost use Rattle.parse.specs.Inner.{first_of, second_of, with_parts, LinkWithin, HandsOver, HandedFronts};
 
-use crate::{Link, Single};
+use crate::{Link, Refusal};
 use restructured_text::Span;
-use rst_bytes::Character;
 use rst_bytes::copy::copy;
 use rst_bytes::domain::char_at;
 
@@ -15,44 +14,36 @@ use rst_bytes::domain::char_at;
 pub fn is_place(document: &[u8], place: usize) -> bool
     ensures { result ≡ is_place place document.now }
 {
-    if document.len() < place {
-        return false;
-    }
-    if place == document.len() {
-        return true;
+    if document.len() <= place {
+        return place == document.len();
     }
     match char_at(document, place) {
-        Character::Starts(_, _) => true,
-        Character::Nothing => false,
+        Some((_, _)) => true,
+        None => false,
     }
-}
-
-// Where two strings stand in the buffers; or the length of the first that does not fit.
-#[derive(Clone, Copy)]
-enum Handed {
-    Both(Span, Span),
-    TooShort(usize),
 }
 
 // The strings that a and b name in the scratch, written to the front of the two buffers, if both fit.
-fn write_both(a: Span, b: Span, scratch: &[u8], first: &mut [u8], second: &mut [u8]) -> Handed
+fn write_both(
+    a: Span,
+    b: Span,
+    scratch: &[u8],
+    first: &mut [u8],
+    second: &mut [u8],
+) -> Result<(Span, Span), usize>
     requires { (a.start + a.len ≤ length scratch.now) × (b.start + b.len ≤ length scratch.now) }
     ensures outcome { HandsOver result first.new second.new first.old second.old (part a scratch.now) (part b scratch.now) }
     ensures fronts { HandedFronts result }
 {
     if first.len() < a.len {
-        return Handed::TooShort(a.len);
+        return Err(a.len);
     }
     if second.len() < b.len {
-        return Handed::TooShort(b.len);
+        return Err(b.len);
     }
-    let a0 = a.start;
-    let a1 = a0 + a.len;
-    let b0 = b.start;
-    let b1 = b0 + b.len;
-    copy(&scratch[a0..a1], first);
-    copy(&scratch[b0..b1], second);
-    Handed::Both(
+    copy(a.of(scratch), first);
+    copy(b.of(scratch), second);
+    Ok((
         Span {
             start: 0,
             len: a.len,
@@ -61,40 +52,19 @@ fn write_both(a: Span, b: Span, scratch: &[u8], first: &mut [u8], second: &mut [
             start: 0,
             len: b.len,
         },
-    )
+    ))
 }
 
 // Where the two strings of a link stand.
-#[derive(Clone, Copy)]
-struct Parts {
-    first: Span,
-    second: Span,
-}
-
-fn parts_of(x: Link) -> Parts
-    ensures { (result.first ≡ first_of x) × (result.second ≡ second_of x) }
+fn parts_of(x: Link) -> (Span, Span)
+    ensures { (result.0 ≡ first_of x) × (result.1 ≡ second_of x) }
 {
     match x {
-        Link::Text2Dest(a, b, _, _) => Parts {
-            first: a,
-            second: b,
-        },
-        Link::TextLabel2Dest(a, b, _, _) => Parts {
-            first: a,
-            second: b,
-        },
-        Link::Text2Label(a, b, _, _) => Parts {
-            first: a,
-            second: b,
-        },
-        Link::Label2Dest(a, b, _, _) => Parts {
-            first: a,
-            second: b,
-        },
-        Link::Label2Label(a, b, _, _) => Parts {
-            first: a,
-            second: b,
-        },
+        Link::Text2Dest(a, b, _, _)
+        | Link::TextLabel2Dest(a, b, _, _)
+        | Link::Text2Label(a, b, _, _)
+        | Link::Label2Dest(a, b, _, _)
+        | Link::Label2Label(a, b, _, _) => (a, b),
     }
 }
 
@@ -112,16 +82,19 @@ fn with_parts(x: Link, a: Span, b: Span) -> Link
 }
 
 // The answer for a link whose strings stand in the scratch.
-pub fn hand_over(x: Link, scratch: &[u8], first: &mut [u8], second: &mut [u8]) -> Single
+pub fn hand_over(
+    x: Link,
+    scratch: &[u8],
+    first: &mut [u8],
+    second: &mut [u8],
+) -> Result<Link, Refusal>
     requires { LinkWithin (length scratch.now) x }
     ensures outcome { outcome_of result first.new second.new ≡ handed first.old second.old (link_of x scratch.now) }
     ensures fronts { Fronts result }
 {
-    let parts = parts_of(x);
-    let a = parts.first;
-    let b = parts.second;
+    let (a, b) = parts_of(x);
     match write_both(a, b, scratch, first, second) {
-        Handed::Both(f, g) => Single::Linked(with_parts(x, f, g)),
-        Handed::TooShort(size) => Single::Refused(7, size),
+        Ok((f, g)) => Ok(with_parts(x, f, g)),
+        Err(size) => Err(Refusal::OutputLen(size)),
     }
 }

@@ -1,12 +1,7 @@
 -- The pieces of `rst_bytes` by number, and their answers in numbers. Each hands on the definition that its function promises.
 -- Assumes nothing.
+use Rattle.std.specs.Prelude.{Option, Some, None}
 use Rattle.std.specs.Prelude.{ℕ, List, length, take, drop, Bool, true, false, ltb, eqb}
-use Rattle.rst_bytes.specs.declared.Part.{Part}
-use Rattle.rst_bytes.specs.declared.Part.TheVariants.{Taken, Refused}
-use Rattle.rst_bytes.specs.declared.Character.{Character}
-use Rattle.rst_bytes.specs.declared.Character.TheVariants.{Starts, Nothing}
-use Rattle.rst_bytes.specs.declared.Outside.{Outside}
-use Rattle.rst_bytes.specs.declared.Outside.TheVariants.{At, Nowhere}
 use Rattle.rst_bytes.specs.Domain.{char_of, outside_of}
 use Rattle.rst_bytes.specs.Word.{is_word, word_of}
 use Rattle.rst_bytes.specs.Trim.{trim_of}
@@ -25,22 +20,22 @@ taken n = record { accepted = 1; value = n; point = 0 }
 abbrev pub whether : Bool → Answer
 whether b = elim b [ true ↦ taken 0 | false ↦ none ]
 
-abbrev pub of_part : Part → Answer
-of_part (Taken n) = taken n
-of_part Refused = none
+abbrev pub of_part : Option ℕ → Answer
+of_part (Some n) = taken n
+of_part None = none
 
-abbrev pub of_outside : Outside → Answer
-of_outside (At n) = taken n
-of_outside Nowhere = none
+abbrev pub of_outside : Option ℕ → Answer
+of_outside (Some n) = taken n
+of_outside None = none
 
-abbrev pub of_character : Character → Answer
-of_character (Starts len point) = record { accepted = 1; value = len; point = point }
-of_character Nothing = none
+abbrev pub of_character : Option (ℕ × ℕ) → Answer
+of_character (Some (len, point)) = record { accepted = 1; value = len; point = point }
+of_character None = none
 
 -- whether it is a word character
-abbrev pub of_word : Character → Answer
-of_word (Starts len point) = whether (is_word point)
-of_word Nothing = none
+abbrev pub of_word : Option (ℕ × ℕ) → Answer
+of_word (Some (len, point)) = whether (is_word point)
+of_word None = none
 
 -- the stop sets: backtick, `<`, `<` and `>`, `:`
 abbrev pub of_set : ℕ → List ℕ → Answer

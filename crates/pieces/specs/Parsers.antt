@@ -1,12 +1,12 @@
 -- The parsers of `restructured_text` by number, and what their answers in numbers say: the definitions that its functions promise.
 -- Assumes nothing.
-use Rattle.std.specs.Prelude.{ℕ, List, [], ◌∷◌, true, false, eqb, take, drop}
-use Rattle.restructured_text.specs.declared.Spans.{Spans}
-use Rattle.restructured_text.specs.declared.Spans.TheVariants.{Parsed, Nothing}
-use Rattle.restructured_text.specs.declared.label.SimpleLabel.{SimpleLabel}
-use Rattle.restructured_text.specs.declared.label.SimpleLabel.TheVariants.{Named, NoLabel}
+use Rattle.std.specs.Prelude.{Option, Some, None}
+use Rattle.restructured_text.specs.Spans.{Spans}
+use Rattle.restructured_text.specs.declared.label.Label.{Label}
+use Rattle.std.specs.Prelude.{ℕ, List, [], ◌∷◌, Bool, true, false, eqb, length, take, drop}
 use Rattle.restructured_text.specs.Strings.{Link, link, none, no_room}
 use Rattle.restructured_text.specs.Block.{BlockText, block, no_block, no-scratch, block_of}
+use Rattle.restructured_text.specs.Transform.{whole, refused, transform_of}
 use Rattle.restructured_text.specs.Text2target.{text2target_of}
 use Rattle.restructured_text.specs.Label.{simple_label_of, parse_text2label_of}
 use Rattle.restructured_text.specs.Target.{parse_label2target_of, label2dest_of, label2label_of}
@@ -21,14 +21,14 @@ without accepted = record { accepted = accepted; first = 0; first_len = 0; secon
 abbrev pub one : ℕ → ℕ → ℕ → Said
 one start len n = record { accepted = 1; first = start; first_len = len; second = 0; second_len = 0; consumed = n }
 
-abbrev pub of_spans : Spans → Said
-of_spans (Parsed a b n) =
+abbrev pub of_spans : Option Spans → Said
+of_spans (Some (a, b, n)) =
     record { accepted = 1; first = a.start; first_len = a.len; second = b.start; second_len = b.len; consumed = n }
-of_spans Nothing = without 0
+of_spans None = without 0
 
-abbrev pub of_label : SimpleLabel → Said
-of_label (Named label n) = one label.start label.len n
-of_label NoLabel = without 0
+abbrev pub of_label : Option (Label × ℕ) → Said
+of_label (Some (label, n)) = one label.start label.len n
+of_label None = without 0
 
 abbrev pub raw_of : ℕ → List ℕ → Said
 raw_of kind s =
@@ -55,7 +55,13 @@ raw_of kind s =
       ]
     ]
 
--- What an answer of 11 and 12, and one of 13 to 17, says, with the scratch as the parser left it.
+-- An answer of 9 and 10, of n bytes.
+
+abbrev pub of_transformed : Option ℕ → ℕ → Said
+of_transformed (Some len) n = one 0 len n
+of_transformed None n = without 0
+
+-- What an answer of 9 to 12, and one of 13 to 17, says, with the scratch as the parser left it.
 
 abbrev pub block_said : Said → List ℕ → BlockText
 block_said r scratch =
@@ -75,6 +81,14 @@ strings_said r scratch =
 abbrev pub block_at : ℕ → List ℕ → BlockText
 block_at kind s =
     elim (eqb kind 11) [ true ↦ block_of (0x2E ∷ 0x2E ∷ 0x20 ∷ []) s | false ↦ block_of (0x5F ∷ 0x5F ∷ 0x20 ∷ []) s ]
+
+-- the transform that is wanted, of all the text
+abbrev pub transformed_of : Bool → List ℕ → BlockText
+transformed_of destination s = elim (transform_of destination s) [ whole l ↦ block l (length s) | refused l ↦ no_block ]
+
+-- the text that 9 and 10 transform: 10 is the destination transform
+abbrev pub transformed_at : ℕ → List ℕ → BlockText
+transformed_at kind s = transformed_of (eqb kind 10) s
 
 -- the forms that 13 to 17 read
 abbrev pub form_at : ℕ → List ℕ → Link

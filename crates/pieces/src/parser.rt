@@ -5,22 +5,23 @@
 ghost use Rattle.std.specs.Prelude.{◌≡◌, ◌<◌, ◌≤◌, ℕ, List};
 ghost use Rattle.restructured_text.specs.Strings.{strings_of, lent};
 ghost use Rattle.restructured_text.specs.Block.{block_in, lent_block};
-ghost use Rattle.pieces.specs.Parsers.{without, one, of_spans, of_label, raw_of, block_said, strings_said, block_at, form_at};
+ghost use Rattle.pieces.specs.Parsers.{without, one, of_spans, of_label, of_transformed, raw_of, block_said, strings_said, block_at, transformed_of, transformed_at, form_at};
 
-use restructured_text::block::{Block, rst_explicit_markup_block};
+use restructured_text::block::rst_explicit_markup_block;
 use restructured_text::inline::{rst_text_label2dest, rst_text2dest, rst_text2label};
-use restructured_text::label::{SimpleLabel, rst_parse_simple_label, rst_parse_text2label};
+use restructured_text::label::{Label, rst_parse_simple_label, rst_parse_text2label};
 use restructured_text::target::{rst_label2dest, rst_label2label, rst_parse_label2target};
 use restructured_text::text2target::rst_parse_text2target;
 use restructured_text::transform::{
-    Transformed, rst_escaped_link_destination_transform, rst_escaped_link_text_transform,
+    rst_escaped_link_destination_transform, rst_escaped_link_text_transform,
 };
-use restructured_text::{Spans, Strings};
+use restructured_text::{ParseError, Spans};
 use rst_bytes::copy::copy;
 
 // An answer: 1 found, 0 refused, 2 the scratch is too short; where the two parts or strings stand; how many bytes are consumed.
+// What is not named is 0. Numbers, as C reads it.
 #[repr(C)]
-#[derive(Clone, Copy)]
+#[derive(Clone, Copy, Debug, Default, PartialEq, Eq)]
 pub struct Parsed {
     pub accepted: usize,
     pub first: usize,
@@ -36,89 +37,97 @@ fn without(accepted: usize) -> Parsed
 {
     Parsed {
         accepted,
-        first: 0,
-        first_len: 0,
-        second: 0,
-        second_len: 0,
-        consumed: 0,
+        ..Parsed::default()
     }
 }
 
 // One part or string.
-fn one(start: usize, len: usize, n: usize) -> Parsed
-    ensures { result ≡ one start len n }
+fn one(first: usize, first_len: usize, consumed: usize) -> Parsed
+    ensures { result ≡ one first first_len consumed }
 {
     Parsed {
         accepted: 1,
-        first: start,
-        first_len: len,
-        second: 0,
-        second_len: 0,
-        consumed: n,
+        first,
+        first_len,
+        consumed,
+        ..Parsed::default()
     }
 }
 
-fn spans(p: Spans) -> Parsed
-    ensures { result ≡ of_spans p }
+impl From<Option<Spans>> for Parsed {
+    ghost from_gives = { λ p r. r ≡ of_spans p };
+
+    fn from(p: Option<Spans>) -> Parsed {
+        match p {
+            Some((a, b, n)) => Parsed {
+                accepted: 1,
+                first: a.start,
+                first_len: a.len,
+                second: b.start,
+                second_len: b.len,
+                consumed: n,
+            },
+            None => without(0),
+        }
+    }
+}
+
+impl From<Option<(Label, usize)>> for Parsed {
+    ghost from_gives = { λ p r. r ≡ of_label p };
+
+    fn from(p: Option<(Label, usize)>) -> Parsed {
+        match p {
+            Some((label, n)) => one(label.start, label.len, n),
+            None => without(0),
+        }
+    }
+}
+
+impl From<Result<Spans, ParseError>> for Parsed {
+    ghost from_gives = { λ p r. (scratch : List ℕ) → strings_said r scratch ≡ strings_of p scratch };
+
+    fn from(p: Result<Spans, ParseError>) -> Parsed {
+        match p {
+            Ok((a, b, n)) => Parsed {
+                accepted: 1,
+                first: a.start,
+                first_len: a.len,
+                second: b.start,
+                second_len: b.len,
+                consumed: n,
+            },
+            Err(ParseError::NotFound) => without(0),
+            Err(ParseError::NoRoom) => without(2),
+        }
+    }
+}
+
+impl From<Result<(usize, usize), ParseError>> for Parsed {
+    ghost from_gives = { λ p r. (scratch : List ℕ) → block_said r scratch ≡ block_in p scratch };
+
+    fn from(p: Result<(usize, usize), ParseError>) -> Parsed {
+        match p {
+            Ok((len, n)) => one(0, len, n),
+            Err(ParseError::NotFound) => without(0),
+            Err(ParseError::NoRoom) => without(2),
+        }
+    }
+}
+
+// What a transform of n bytes gives.
+fn transformed(p: Option<usize>, n: usize) -> Parsed
+    ensures { result ≡ of_transformed p n }
 {
     match p {
-        Spans::Parsed(a, b, n) => Parsed {
-            accepted: 1,
-            first: a.start,
-            first_len: a.len,
-            second: b.start,
-            second_len: b.len,
-            consumed: n,
-        },
-        Spans::Nothing => without(0),
+        Some(len) => one(0, len, n),
+        None => without(0),
     }
 }
 
-fn simple_label(p: SimpleLabel) -> Parsed
-    ensures { result ≡ of_label p }
+// A transform of a copy of the input. A bool, as in `transform_of`: a closure's clause would have to name what each transform leaves.
+fn transform(s: &[u8], scratch: &mut [u8], destination: bool) -> Parsed
+    ensures { block_said result scratch.new ≡ lent_block s.now scratch.old (transformed_of destination s.now) }
 {
-    match p {
-        SimpleLabel::Named(label, n) => one(label.start, label.len, n),
-        SimpleLabel::NoLabel => without(0),
-    }
-}
-
-fn strings(p: Strings) -> Parsed
-    ensures { (scratch : List ℕ) → strings_said result scratch ≡ strings_of p scratch }
-{
-    match p {
-        Strings::Found(a, b, n) => Parsed {
-            accepted: 1,
-            first: a.start,
-            first_len: a.len,
-            second: b.start,
-            second_len: b.len,
-            consumed: n,
-        },
-        Strings::NotFound => without(0),
-        Strings::NoRoom => without(2),
-    }
-}
-
-fn block(p: Block) -> Parsed
-    ensures { (scratch : List ℕ) → block_said result scratch ≡ block_in p scratch }
-{
-    match p {
-        Block::Joined(len, n) => one(0, len, n),
-        Block::NoBlock => without(0),
-        Block::NoScratch => without(2),
-    }
-}
-
-fn transformed(p: Transformed, n: usize) -> Parsed {
-    match p {
-        Transformed::Text(len) => one(0, len, n),
-        Transformed::Wrong => without(0),
-    }
-}
-
-// A transform of a copy of the input.
-fn transform(s: &[u8], scratch: &mut [u8], destination: bool) -> Parsed {
     let n = s.len();
     if scratch.len() < n {
         return without(2);
@@ -136,68 +145,37 @@ fn transform(s: &[u8], scratch: &mut [u8], destination: bool) -> Parsed {
 fn raw(kind: usize, s: &[u8]) -> Parsed
     ensures { result ≡ raw_of kind s.now }
 {
-    if kind == 1 {
-        return spans(rst_parse_text2target(s, false, false));
+    match kind {
+        1 => rst_parse_text2target(s, false, false).into(),
+        2 => rst_parse_text2target(s, false, true).into(),
+        3 => rst_parse_text2target(s, true, false).into(),
+        4 => rst_parse_text2target(s, true, true).into(),
+        5 => rst_parse_simple_label(s).into(),
+        6 => rst_parse_text2label(s).into(),
+        7 => rst_parse_label2target(s, false).into(),
+        8 => rst_parse_label2target(s, true).into(),
+        _ => without(0),
     }
-    if kind == 2 {
-        return spans(rst_parse_text2target(s, false, true));
-    }
-    if kind == 3 {
-        return spans(rst_parse_text2target(s, true, false));
-    }
-    if kind == 4 {
-        return spans(rst_parse_text2target(s, true, true));
-    }
-    if kind == 5 {
-        return simple_label(rst_parse_simple_label(s));
-    }
-    if kind == 6 {
-        return spans(rst_parse_text2label(s));
-    }
-    if kind == 7 {
-        return spans(rst_parse_label2target(s, false));
-    }
-    if kind == 8 {
-        return spans(rst_parse_label2target(s, true));
-    }
-    without(0)
 }
 
 // What the parser of this number answers.
 pub fn rst_parser(kind: usize, s: &[u8], scratch: &mut [u8]) -> Parsed
     ensures raw { kind < 9 → result ≡ raw_of kind s.now }
+    ensures transform { 9 ≤ kind → kind ≤ 10 → block_said result scratch.new ≡ lent_block s.now scratch.old (transformed_at kind s.now) }
     ensures block { 11 ≤ kind → kind ≤ 12 → block_said result scratch.new ≡ lent_block s.now scratch.old (block_at kind s.now) }
     ensures strings { 13 ≤ kind → kind ≤ 17 → strings_said result scratch.new ≡ lent s.now scratch.old (form_at kind s.now) }
 {
-    if kind < 9 {
-        return raw(kind, s);
+    match kind {
+        0..9 => raw(kind, s),
+        9 => transform(s, scratch, false),
+        10 => transform(s, scratch, true),
+        11 => rst_explicit_markup_block(s, b".. ", scratch).into(),
+        12 => rst_explicit_markup_block(s, b"__ ", scratch).into(),
+        13 => rst_text2dest(s, scratch).into(),
+        14 => rst_text_label2dest(s, scratch).into(),
+        15 => rst_text2label(s, scratch).into(),
+        16 => rst_label2dest(s, scratch).into(),
+        17 => rst_label2label(s, scratch).into(),
+        _ => without(0),
     }
-    if kind == 9 {
-        return transform(s, scratch, false);
-    }
-    if kind == 10 {
-        return transform(s, scratch, true);
-    }
-    if kind == 11 {
-        return block(rst_explicit_markup_block(s, b".. ", scratch));
-    }
-    if kind == 12 {
-        return block(rst_explicit_markup_block(s, b"__ ", scratch));
-    }
-    if kind == 13 {
-        return strings(rst_text2dest(s, scratch));
-    }
-    if kind == 14 {
-        return strings(rst_text_label2dest(s, scratch));
-    }
-    if kind == 15 {
-        return strings(rst_text2label(s, scratch));
-    }
-    if kind == 16 {
-        return strings(rst_label2dest(s, scratch));
-    }
-    if kind == 17 {
-        return strings(rst_label2label(s, scratch));
-    }
-    without(0)
 }

@@ -2,6 +2,7 @@
 -- with `_` or begins with a backtick, as an embedded link does, and white space is in no word. Where none stands before LF, or before the
 -- end, there is no target either: it has a `_` before its name, and none of the bytes before that is LF.
 -- Assumes nothing.
+use Rattle.std.proofs.Common.{None}
 use Prim.Native.Nat.{ℕ, ◌-◌, ◌<◌}
 use native.Mathlib.Omega.{arith}
 use mathlib.Core.Path.{◌≡◌, refl, sym, ap, ◌∙◌}
@@ -16,12 +17,10 @@ use Rattle.rst_bytes.specs.Escaped.{is_stop}
 use Rattle.rst_bytes.specs.Line.{is_multispace, space0_of}
 use Rattle.rst_bytes.specs.Tag.{starts_with}
 use Rattle.rst_bytes.specs.Word.{is_ascii_word, word_of}
-use Rattle.rst_bytes.specs.declared.Part.TheVariants.{Refused}
 use Rattle.rst_bytes.proofs.EscapedLaws.{free-drop, free-take}
 use Rattle.rst_bytes.proofs.LineLaws.{space0-le, space0-lf, multispace-cases}
 use Rattle.rst_bytes.proofs.TagLaws.{starts-free, starts-byte, starts-lf}
 use Rattle.rst_bytes.proofs.WordLaws.{word-within, word-ended}
-use Rattle.restructured_text.specs.declared.label.SimpleLabel.TheVariants.{NoLabel}
 use Rattle.restructured_text.specs.Calm.{calm, Parted, Ended}
 use Rattle.restructured_text.specs.Delimited.{ends_with, closing, backticked_of}
 use Rattle.restructured_text.specs.Label.{word_label_of}
@@ -80,7 +79,7 @@ not-ends p x h k =
 -- A calm text x, and z: nothing, or white space and more.
 module _ (x z : List ℕ) (h : calm x ≡ true) (e : Parted z) where
   -- no backticked run begins
-  no-backtick : (anonym : Bool) → backticked_of anonym (x ++ z) ≡ Refused
+  no-backtick : (anonym : Bool) → backticked_of anonym (x ++ z) ≡ None
   unfolding calm free is_stop
   no-backtick anonym =
       delimited-none (0x60 ∷ []) 0x60 0x60 (closing anonym) (x ++ z)
@@ -93,7 +92,7 @@ module _ (x z : List ℕ) (h : calm x ≡ true) (e : Parted z) where
   calm-text-label2dest = text-label2dest-refused (x ++ z) (no-backtick false)
 
   -- a word that does not end with _
-  no_word : word_label_of (x ++ z) ≡ NoLabel
+  no_word : word_label_of (x ++ z) ≡ None
   unfolding calm free is_stop
   no_word =
       word_none (x ++ z) (take (word_of x) x) (word_of x) (sym is) (sym (take-append-le (word_of x) x z (word-within x)))
@@ -107,7 +106,7 @@ module _ (x z : List ℕ) (h : calm x ≡ true) (e : Parted z) where
   calm-text2label =
       ap (finished_of false (x ++ z))
       (reference-none (x ++ z)
-      (form-simple (x ++ z) NoLabel (form-none false true (x ++ z) (no-backtick false))
+      (form-simple (x ++ z) None (form-none false true (x ++ z) (no-backtick false))
       (simple-none (x ++ z) (raw_word (x ++ z) (no-backtick false) ∙ no_word))))
 
 -- A calm text x, and z: nothing, or LF and more.

@@ -1,6 +1,7 @@
 -- Worked examples of the definitions, gathered as lists and checked by computation: 01's notes that speak of one form, and the
 -- readings of 01 that docs/DECISIONS.md gives.
 -- Assumes nothing.
+use Rattle.std.proofs.Common.{Some, None}
 use Prim.Native.Nat.{ℕ}
 use Prim.Native.Char.{code}
 use Prim.Native.String.{String}
@@ -13,7 +14,6 @@ use Rattle.rst_bytes.specs.Trim.{is_blank, blanks, trim_of}
 use Rattle.rst_bytes.specs.Escaped.{is_escapable, is_stop, taking, escaped_of}
 use Rattle.rst_bytes.specs.Line.{line_ending_of, line_from, is_space, is_multispace, bytes_from}
 use Rattle.rst_bytes.specs.Tag.{starts_with}
-use Rattle.restructured_text.specs.declared.label.SimpleLabel.TheVariants.{Named, NoLabel}
 use Rattle.restructured_text.specs.Transform.{whole, refused, reading, gives, is_destination_escapable, unblank, text_of, destination_of}
 use Rattle.restructured_text.specs.Delimited.{delimited_of, ends_with}
 use Rattle.restructured_text.specs.Text2target.{target_of, inside_of, text2target_of}
@@ -200,14 +200,14 @@ limits :
     ∷ (ascii "`" ++ escapes (letters 499) ++ ascii "`_")
     ∷ (ascii "`" ++ escapes (letters 500) ++ ascii "`_")
     ∷ [])
-    ≡ Named (record { start = 0; len = 999 }) 1000
-    ∷ NoLabel
-    ∷ Named (record { start = 0; len = 999 }) 1000
-    ∷ NoLabel
-    ∷ Named (record { start = 1; len = 999 }) 1002
-    ∷ NoLabel
-    ∷ Named (record { start = 1; len = 998 }) 1001
-    ∷ NoLabel
+    ≡ Some ((record { start = 0; len = 999 }), 1000)
+    ∷ None
+    ∷ Some ((record { start = 0; len = 999 }), 1000)
+    ∷ None
+    ∷ Some ((record { start = 1; len = 999 }), 1002)
+    ∷ None
+    ∷ Some ((record { start = 1; len = 998 }), 1001)
+    ∷ None
     ∷ []
 unfolding simple_label_of raw_label_of word_label_of delimited_of ends_with starts_with escaped_of taking is_stop is_escapable run char_of is_pair word_of is_word is_ascii_word in_ranges word_ranges
 limits = refl

@@ -2,6 +2,7 @@
 -- ends with; and that LF and a tail without stop bytes behind the text change nothing: an open part stays open, and a closing tag at
 -- the end of the text is followed by LF.
 -- Assumes nothing.
+use Rattle.std.proofs.Common.{Option, Some, None}
 use Prim.Native.Nat.{ℕ, ◌+◌, ◌-◌, ◌<◌, ◌≤◌}
 use native.Mathlib.Omega.{arith}
 use mathlib.Core.Path.{◌≡◌, refl, sym, ap, ◌∙◌}
@@ -15,8 +16,6 @@ use borrow.Author.Tests.{ne_eqb, le-leb, lt-leb, leb-true}
 use Rattle.rst_bytes.specs.Appending.{free}
 use Rattle.rst_bytes.specs.Escaped.{escaped_of, is_stop}
 use Rattle.rst_bytes.specs.Tag.{starts_with}
-use Rattle.rst_bytes.specs.declared.Part.{Part}
-use Rattle.rst_bytes.specs.declared.Part.TheVariants.{Taken, Refused}
 use Rattle.rst_bytes.proofs.Lists.{drop-end}
 use Rattle.rst_bytes.proofs.TestLaws.{lt-or-le}
 use Rattle.rst_bytes.proofs.EscapedLaws.{refused-taken, taken_is, taken-le, refused-lf, taken-lf, open-lf}
@@ -25,50 +24,50 @@ use Rattle.restructured_text.specs.Delimited.{delimited_of, ends_with, closing, 
 
 -- By the code's tests: u is what stands behind the first tag, and v what stands behind the part.
 module _ (l : List ℕ) (p q : ℕ) (r s : List ℕ) where
-  pub delimited-none : starts_with l s ≡ false → delimited_of l p q r s ≡ Refused
+  pub delimited-none : starts_with l s ≡ false → delimited_of l p q r s ≡ None
   unfolding delimited_of
   delimited-none e = simp (e, delimited_of)
 
   module _ (u : List ℕ) (e : starts_with l s ≡ true) (is : u ≡ drop (length l) s) where
-    pub delimited-refused : escaped_of p q u ≡ Refused → delimited_of l p q r s ≡ Refused
+    pub delimited-refused : escaped_of p q u ≡ None → delimited_of l p q r s ≡ None
     unfolding delimited_of
     delimited-refused f = simp (e, ← is, f, delimited_of)
 
-    module _ (n : ℕ) (v : List ℕ) (f : escaped_of p q u ≡ Taken n) (iv : v ≡ drop n u) where
-      pub delimited-taken : starts_with r v ≡ true → delimited_of l p q r s ≡ Taken n
+    module _ (n : ℕ) (v : List ℕ) (f : escaped_of p q u ≡ Some n) (iv : v ≡ drop n u) where
+      pub delimited-taken : starts_with r v ≡ true → delimited_of l p q r s ≡ Some n
       unfolding delimited_of
       delimited-taken g = simp (e, ← is, f, ← iv, g, delimited_of)
 
-      pub delimited-unclosed : starts_with r v ≡ false → delimited_of l p q r s ≡ Refused
+      pub delimited-unclosed : starts_with r v ≡ false → delimited_of l p q r s ≡ None
       unfolding delimited_of
       delimited-unclosed g = simp (e, ← is, f, ← iv, g, delimited_of)
 
 -- a part of n bytes is taken
 pub record Delimited (l : List ℕ) (p q : ℕ) (r s : List ℕ) (n : ℕ) : Type 0 where
   pub begins : starts_with l s ≡ true
-  pub inner : escaped_of p q (drop (length l) s) ≡ Taken n
+  pub inner : escaped_of p q (drop (length l) s) ≡ Some n
   pub ends : starts_with r (drop n (drop (length l) s)) ≡ true
 
 -- a delimited part that is taken has its tags
-pub delimited-is : (l : List ℕ) (p q : ℕ) (r s : List ℕ) (n : ℕ) → delimited_of l p q r s ≡ Taken n → Delimited l p q r s n
+pub delimited-is : (l : List ℕ) (p q : ℕ) (r s : List ℕ) (n : ℕ) → delimited_of l p q r s ≡ Some n → Delimited l p q r s n
 delimited-is l p q r s n e = begins (starts_with l s) refl
   where
-    ends : (m : ℕ) → starts_with l s ≡ true → escaped_of p q (drop (length l) s) ≡ Taken m → (x : Bool) → starts_with r (drop m (drop (length l) s)) ≡ x → Delimited l p q r s n
+    ends : (m : ℕ) → starts_with l s ≡ true → escaped_of p q (drop (length l) s) ≡ Some m → (x : Bool) → starts_with r (drop m (drop (length l) s)) ≡ x → Delimited l p q r s n
     ends m b i true f =
         let k : m ≡ n = taken_is m n (sym (delimited-taken l p q r s _ b refl m _ i refl f) ∙ e) in
-        record { begins = b; inner = i ∙ ap Taken k; ends = ap (λ (j : ℕ). starts_with r (drop j (drop (length l) s))) (sym k) ∙ f }
+        record { begins = b; inner = i ∙ ap Some k; ends = ap (λ (j : ℕ). starts_with r (drop j (drop (length l) s))) (sym k) ∙ f }
     ends m b i false f = absurd (refused-taken n (sym (delimited-unclosed l p q r s _ b refl m _ i refl f) ∙ e))
 
-    inner : starts_with l s ≡ true → (x : Part) → escaped_of p q (drop (length l) s) ≡ x → Delimited l p q r s n
-    inner b (Taken m) i = ends m b i _ refl
-    inner b Refused i = absurd (refused-taken n (sym (delimited-refused l p q r s _ b refl i) ∙ e))
+    inner : starts_with l s ≡ true → (x : Option ℕ) → escaped_of p q (drop (length l) s) ≡ x → Delimited l p q r s n
+    inner b (Some m) i = ends m b i _ refl
+    inner b None i = absurd (refused-taken n (sym (delimited-refused l p q r s _ b refl i) ∙ e))
 
     begins : (x : Bool) → starts_with l s ≡ x → Delimited l p q r s n
     begins true b = inner b _ refl
     begins false b = absurd (refused-taken n (sym (delimited-none l p q r s b) ∙ e))
 
 -- the tags and the part lie within the text
-pub delimited-within : (l : List ℕ) (p q : ℕ) (r s : List ℕ) (n : ℕ) → delimited_of l p q r s ≡ Taken n → length l + n + length r ≤ length s
+pub delimited-within : (l : List ℕ) (p q : ℕ) (r s : List ℕ) (n : ℕ) → delimited_of l p q r s ≡ Some n → length l + n + length r ≤ length s
 delimited-within l p q r s n e =
     let d = delimited-is l p q r s n e in
     let a = starts-le l s d.begins in
@@ -96,7 +95,7 @@ module _ (l : List ℕ) (p q : ℕ) (r s t : List ℕ) (k : is_stop p q 10 ≡ f
     is = sym (drop-append-le (length l) s (10 ∷ t) (starts-le l s b))
 
     -- a part that ends before a stop byte
-    closed : (n : ℕ) → escaped_of p q u ≡ Taken n → n < length u → delimited_of l p q r (s ++ 10 ∷ t) ≡ delimited_of l p q r s
+    closed : (n : ℕ) → escaped_of p q u ≡ Some n → n < length u → delimited_of l p q r (s ++ 10 ∷ t) ≡ delimited_of l p q r s
     unfolding u
     closed n e g = go (starts_with r (drop n u)) refl
       where
@@ -112,28 +111,28 @@ module _ (l : List ℕ) (p q : ℕ) (r s t : List ℕ) (k : is_stop p q 10 ≡ f
             ∙ sym (delimited-unclosed l p q r s u b refl n _ e refl f)
 
     -- a part that runs to the end of the text
-    runs : (n : ℕ) → escaped_of p q u ≡ Taken n → length u ≤ n → delimited_of l p q r (s ++ 10 ∷ t) ≡ delimited_of l p q r s
+    runs : (n : ℕ) → escaped_of p q u ≡ Some n → length u ≤ n → delimited_of l p q r (s ++ 10 ∷ t) ≡ delimited_of l p q r s
     unfolding u
     runs n e g = longer ∙ sym (delimited-unclosed l p q r s u b refl n [] e (sym (drop-end u n g)) (starts-empty r pr))
       where
-        whole : escaped_of p q u ≡ Taken (length u)
+        whole : escaped_of p q u ≡ Some (length u)
         whole =
             let w = taken-le p q u n e in
             let z : n ≡ length u = omega arith in
-            e ∙ ap Taken z
+            e ∙ ap Some z
 
-        longer : delimited_of l p q r (s ++ 10 ∷ t) ≡ Refused
+        longer : delimited_of l p q r (s ++ 10 ∷ t) ≡ None
         longer =
             ⊎_elim
             (λ f. delimited-refused l p q r (s ++ 10 ∷ t) (u ++ 10 ∷ t) b' is f)
             (λ f. delimited-unclosed l p q r (s ++ 10 ∷ t) (u ++ 10 ∷ t) b' is _ [] f (sym (drop-end (u ++ 10 ∷ t) (length (u ++ 10 ∷ t)) (omega arith))) (starts-empty r pr))
             (open-lf p q u t k h whole)
 
-    part : (x : Part) → escaped_of p q u ≡ x → delimited_of l p q r (s ++ 10 ∷ t) ≡ delimited_of l p q r s
+    part : (x : Option ℕ) → escaped_of p q u ≡ x → delimited_of l p q r (s ++ 10 ∷ t) ≡ delimited_of l p q r s
     unfolding u
-    part Refused e =
+    part None e =
         delimited-refused l p q r (s ++ 10 ∷ t) (u ++ 10 ∷ t) b' is (refused-lf p q u t e) ∙ sym (delimited-refused l p q r s u b refl e)
-    part (Taken n) e = ⊎_elim (λ g. closed n e g) (λ g. runs n e g) (lt-or-le n (length u))
+    part (Some n) e = ⊎_elim (λ g. closed n e g) (λ g. runs n e g) (lt-or-le n (length u))
 
   delimited-lf : delimited_of l p q r (s ++ 10 ∷ t) ≡ delimited_of l p q r s
   delimited-lf = go (starts_with l s) refl
@@ -162,13 +161,13 @@ module _ (t s : List ℕ) where
       go false f g = absurd (false≢true g)
 
 -- a backticked run and its backticks lie within the text
-pub backticked-within : (anonym : Bool) (s : List ℕ) (n : ℕ) → backticked_of anonym s ≡ Taken n → n + 1 + length (closing anonym) ≤ length s
+pub backticked-within : (anonym : Bool) (s : List ℕ) (n : ℕ) → backticked_of anonym s ≡ Some n → n + 1 + length (closing anonym) ≤ length s
 backticked-within anonym s n e =
     let w = delimited-within (0x60 ∷ []) 0x60 0x60 (closing anonym) s n e in
     omega arith
 
 -- another byte than a backtick begins none
-pub backticked-other : (anonym : Bool) (b : ℕ) (s : List ℕ) → (b ≡ 0x60 → ⊥) → backticked_of anonym (b ∷ s) ≡ Refused
+pub backticked-other : (anonym : Bool) (b : ℕ) (s : List ℕ) → (b ≡ 0x60 → ⊥) → backticked_of anonym (b ∷ s) ≡ None
 unfolding starts_with
 backticked-other anonym b s h = delimited-none (0x60 ∷ []) 0x60 0x60 (closing anonym) (b ∷ s) (simp (ne_eqb b 0x60 h, starts_with))
 

@@ -1,6 +1,7 @@
 -- What `join_lines` and `rst_explicit_markup_block` write, by lists: a byte and a line behind it at the front of a slice, the loop's
 -- invariant with its steps, and the first line with the further lines joined to it.
 -- Assumes nothing.
+use Rattle.std.proofs.Common.{Some, None}
 use Prim.Native.Nat.{ℕ, ◌+◌, ◌-◌, ◌<◌, ◌≤◌}
 use mathlib.Core.Path.{◌≡◌, refl, sym, ap, ◌∙◌}
 use mathlib.Core.List.{List, [], ◌∷◌, ◌++◌, append_assoc, append-nil}
@@ -10,10 +11,8 @@ use lib.ListN.{length, take, drop, set, length-drop, length-append, length-set}
 use lib.Seq.{length-take-le, take-length, take-suc-set, take_at, drop-drop}
 use borrow.Rule.Slice.PartMut.{same_len_mid}
 use Rattle.rst_bytes.specs.Line.{not_line_ending_of, space0_of}
-use Rattle.rst_bytes.specs.declared.Part.TheVariants.{Taken}
 use Rattle.rst_bytes.proofs.Lists.{part-from}
 use Rattle.rst_bytes.proofs.LineLaws.{not-line-ending-le}
-use Rattle.restructured_text.specs.declared.block.Line.TheVariants.{Further, End}
 use Rattle.restructured_text.specs.Block.{start_of, further_of, Joining, joined, lines_of, block, with_lines, block_of, lent_block}
 use Rattle.restructured_text.proofs.BlockLaws.{from, start-le, further-pos, further-le, lines_end, lines-further, lines-le, block-taken, lent-enough}
 
@@ -58,95 +57,88 @@ module _ (d x : List ℕ) (n b : ℕ) (fits : n + 1 + length x ≤ length d) whe
       ∙ ap (λ (l : List ℕ). l ++ x) upto
       ∙ append_assoc (take n d) (b ∷ []) x))
 
--- Where the loop stands: i bytes of s are read and n stand at the front of d; these and the lines that are left are the m bytes that
+-- Where the loop stands: r is left of s, and n bytes stand at the front of d; these and the lines that are left are the m bytes that
 -- were there first and all lines; and what is left fits.
-pub record Joins (indent s d₀ d : List ℕ) (m i n : ℕ) : Type 0 where
+pub record Joins (indent s d₀ d r : List ℕ) (m n : ℕ) : Type 0 where
   pub first : m ≤ length d₀
-  pub within : i ≤ length s
-  pub room : n + (length s - i) ≤ length d
+  pub within : length r ≤ length s
+  pub room : n + length r ≤ length d
   pub len : length d ≡ length d₀
-  pub read : i + (lines_of indent 0 (drop i s)).read ≡ (lines_of indent 0 s).read
-  pub text : take n d ++ (lines_of indent 0 (drop i s)).text ≡ take m d₀ ++ (lines_of indent 0 s).text
+  pub read : length s - length r + (lines_of indent 0 r).read ≡ (lines_of indent 0 s).read
+  pub text : take n d ++ (lines_of indent 0 r).text ≡ take m d₀ ++ (lines_of indent 0 s).text
 
 -- nothing is read
-pub joins-start : (indent s d : List ℕ) (m : ℕ) → m + length s ≤ length d → Joins indent s d d m 0 m
+pub joins-start : (indent s d : List ℕ) (m : ℕ) → m + length s ≤ length d → Joins indent s d d s m m
 joins-start indent s d m h =
     record { first = omega arith; within = omega arith; room = omega arith; len = refl; read = omega arith; text = refl }
 
-module _ {indent s d₀ d : List ℕ} {m i n : ℕ} (st : Joins indent s d₀ d m i n) where
+module _ {indent s d₀ d r : List ℕ} {m n : ℕ} (st : Joins indent s d₀ d r m n) where
   -- One more line, of len bytes behind a bytes.
-  module _ (a len : ℕ) (e : further_of indent (from s i) ≡ Further a len) where
-    -- it is within the text
-    pub line-part : a + len ≤ length (from s i)
-    line-part = further-le indent (from s i) a len e
+  module _ (a len : ℕ) (e : further_of indent r ≡ Some (a, len)) where
+    line-le : a + len ≤ length r
+    line-le = further-le indent r a len e
 
     line-pos : 3 < a
-    line-pos = further-pos indent (from s i) a len e
+    line-pos = further-pos indent r a len e
 
-    pub line-le : i + (a + len) ≤ length s
-    line-le = omega (arith, line-part, ap length (part-from s i), length-drop i s, st.within)
+    left-length : length (from r (a + len)) ≡ length r - (a + len)
+    left-length = ap length (part-from r (a + len)) ∙ length-drop (a + len) r
 
-    pub line-less : length s - (i + (a + len)) < length s - i
-    line-less = omega (arith, line-le, line-pos)
+    pub line-less : length (from r (a + len)) < length r
+    line-less = omega (arith, left-length, line-le, line-pos)
 
     -- its text
-    source : take (a + len - a) (drop a (from s i)) ≡ take len (drop a (drop i s))
+    source : take (a + len - a) (drop a r) ≡ take len (drop a r)
     source =
         let z : a + len - a ≡ len = omega arith in
-        rw (z, part-from s i) refl
+        rw z refl
 
-    source-length : length (take (a + len - a) (drop a (from s i))) ≡ len
-    source-length = ap length source ∙ length-take-le len (drop a (drop i s)) (omega (arith, line-le, length-drop a (drop i s), length-drop i s))
+    source-length : length (take (a + len - a) (drop a r)) ≡ len
+    source-length = ap length source ∙ length-take-le len (drop a r) (omega (arith, line-le, length-drop a r))
 
     -- it fits, with the space before it
-    pub line-room : n + 1 + len ≤ length d
-    line-room = omega (arith, line-le, line-pos, st.room)
+    fits : n + 1 + length (take (a + len - a) (drop a r)) ≤ length d
+    fits = omega (arith, source-length, line-le, line-pos, st.room)
 
-    pub part_room : (b : ℕ) → n + 1 ≤ length (set d n b)
-    part_room b = omega (arith, line-room, length-set d n b)
+    pub copy-room : (b : ℕ) → length (take (a + len - a) (drop a r)) ≤ length (from (set d n b) (n + 1))
+    copy-room b = room d (take (a + len - a) (drop a r)) n b fits
 
-    fits : n + 1 + length (take (a + len - a) (drop a (from s i))) ≤ length d
-    fits = omega (arith, source-length, line-room)
-
-    pub copy-room : (b : ℕ) → length (take (a + len - a) (drop a (from s i))) ≤ length (from (set d n b) (n + 1))
-    copy-room b = room d (take (a + len - a) (drop a (from s i))) n b fits
-
-    lines : lines_of indent 0 (drop i s) ≡ joined a len (drop i s) (lines_of indent 0 (drop (i + (a + len)) s))
+    lines : lines_of indent 0 r ≡ joined a len r (lines_of indent 0 (from r (a + len)))
     lines =
-        lines-further indent (drop i s) a len (ap (further_of indent) (sym (part-from s i)) ∙ e)
-        ∙ ap (λ (l : List ℕ). joined a len (drop i s) (lines_of indent 0 l)) (drop-drop (a + len) i s)
+        lines-further indent r a len e
+        ∙ ap (λ (l : List ℕ). joined a len r (lines_of indent 0 l)) (sym (part-from r (a + len)))
 
     -- it is written
-    module _ (ys : List ℕ) (is : ys ≡ copied (take (a + len - a) (drop a (from s i))) (from (set d n 32) (n + 1))) where
+    module _ (ys : List ℕ) (is : ys ≡ copied (take (a + len - a) (drop a r)) (from (set d n 32) (n + 1))) where
       same : length (back (set d n 32) (n + 1) ys) ≡ length d
-      same = rw is (added-length d (take (a + len - a) (drop a (from s i))) n 32 fits)
+      same = rw is (added-length d (take (a + len - a) (drop a r)) n 32 fits)
 
-      front : take (n + 1 + len) (back (set d n 32) (n + 1) ys) ≡ take n d ++ 32 ∷ take len (drop a (drop i s))
+      front : take (n + 1 + len) (back (set d n 32) (n + 1) ys) ≡ take n d ++ 32 ∷ take len (drop a r)
       front =
           ap (λ (k : ℕ). take (n + 1 + k) (back (set d n 32) (n + 1) ys)) (sym source-length)
-          ∙ rw is (added-front d (take (a + len - a) (drop a (from s i))) n 32 fits)
+          ∙ rw is (added-front d (take (a + len - a) (drop a r)) n 32 fits)
           ∙ ap (λ (l : List ℕ). take n d ++ 32 ∷ l) source
 
-      pub joins-more : Joins indent s d₀ (back (set d n 32) (n + 1) ys) m (i + (a + len)) (n + 1 + len)
+      pub joins-more : Joins indent s d₀ (back (set d n 32) (n + 1) ys) (from r (a + len)) m (n + 1 + len)
       joins-more =
-          let more = lines_of indent 0 (drop (i + (a + len)) s) in
+          let more = lines_of indent 0 (from r (a + len)) in
           record {
             first = st.first;
-            within = line-le;
-            room = omega (arith, st.room, line-le, line-pos, same);
+            within = omega (arith, st.within, left-length);
+            room = omega (arith, st.room, left-length, line-le, line-pos, same);
             len = same ∙ st.len;
-            read = omega (arith, st.read, ap (λ (j : Joining). j.read) lines);
+            read = omega (arith, st.read, st.within, left-length, line-le, ap (λ (j : Joining). j.read) lines);
             text =
                 ap (λ (l : List ℕ). l ++ more.text) front
-                ∙ append_assoc (take n d) (32 ∷ take len (drop a (drop i s))) more.text
+                ∙ append_assoc (take n d) (32 ∷ take len (drop a r)) more.text
                 ∙ sym (ap (λ (j : Joining). take n d ++ j.text) lines)
                 ∙ st.text;
           }
 
   -- No more line.
-  module _ (e : further_of indent (from s i) ≡ End) where
-    none : lines_of indent 0 (drop i s) ≡ record { text = []; read = 0 }
-    none = lines_end indent (drop i s) (ap (further_of indent) (sym (part-from s i)) ∙ e)
+  module _ (e : further_of indent r ≡ None) where
+    none : lines_of indent 0 r ≡ record { text = []; read = 0 }
+    none = lines_end indent r e
 
     whole : take n d ≡ take m d₀ ++ (lines_of indent 0 s).text
     whole = sym (append-nil (take n d)) ∙ sym (ap (λ (j : Joining). take n d ++ j.text) none) ∙ st.text
@@ -157,11 +149,13 @@ module _ {indent s d₀ d : List ℕ} {m i n : ℕ} (st : Joins indent s d₀ d 
         ∙ ap length whole
         ∙ omega (arith, length-append (take m d₀) (lines_of indent 0 s).text, length-take-le m d₀ st.first)
 
-    pub joins-end : (n ≡ m + length (lines_of indent 0 s).text) × ((i ≡ (lines_of indent 0 s).read) × (take n d ≡ take m d₀ ++ (lines_of indent 0 s).text))
+    pub joins-end :
+        (n ≡ m + length (lines_of indent 0 s).text) × ((length s - length r ≡ (lines_of indent 0 s).read)
+        × (take n d ≡ take m d₀ ++ (lines_of indent 0 s).text))
     joins-end = (whole_length, (omega (arith, st.read, ap (λ (j : Joining). j.read) none), whole))
 
 -- The first line, of n bytes behind a bytes.
-module _ (header s : List ℕ) (a n : ℕ) (e : start_of header s ≡ Taken a) (f : not_line_ending_of (from s a) ≡ Taken n) where
+module _ (header s : List ℕ) (a n : ℕ) (e : start_of header s ≡ Some a) (f : not_line_ending_of (from s a) ≡ Some n) where
   pub first-le : n ≤ length (from s a)
   first-le = not-line-ending-le (from s a) n f
 

@@ -2,6 +2,7 @@
 pub mod TransformLaws
 pub mod PartLaws
 pub mod DelimitedLaws
+pub mod Bounds
 pub mod Text2targetLaws
 pub mod LabelLaws
 pub mod StringsLaws

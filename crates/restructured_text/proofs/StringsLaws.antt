@@ -1,6 +1,7 @@
 -- The laws of specs/Strings.antt: the strings that stand in a scratch, after each of its raw parts was transformed in its place; that
 -- only the bytes up to the parts' end matter; how long the strings are; and what is asked of a scratch.
 -- Assumes nothing.
+use Rattle.std.proofs.Common.{Option, Some, None}
 use Prim.Native.Nat.{ℕ, ◌+◌, ◌-◌, ◌<◌, ◌≤◌}
 use mathlib.Core.Path.{◌≡◌, sym, ap, ◌∙◌}
 use mathlib.Core.List.{List, ◌++◌}
@@ -11,15 +12,13 @@ use lib.Seq.{length-take-le}
 use borrow.Author.Tests.{lt-ltb, le-ltb}
 use borrow.Rule.Slice.PartMut.{mid_of, put_mid}
 use Rattle.restructured_text.specs.declared.Span.{Span}
-use Rattle.restructured_text.specs.declared.transform.Transformed.{Transformed}
-use Rattle.restructured_text.specs.declared.transform.Transformed.TheVariants.{Text, Wrong}
 use Rattle.restructured_text.specs.Transform.{Given, whole, refused, text_of, transform_of, answer_of, bytes_of}
 use Rattle.restructured_text.specs.Strings.{Link, link, none, no_room, part, paired, linked, lent}
 use Rattle.restructured_text.proofs.TransformLaws.{text-text, text-wrong, answer-refused, text-le, transform-le}
 use Rattle.restructured_text.proofs.PartLaws.{part-append, part-front, part_length, put-length, put-here, put-before, put-after}
 
 -- a whole text, by its answer and by what stands at the front of y
-given-whole : (g : Given) (y : List ℕ) (i : ℕ) → Text i ≡ answer_of g → take (length (bytes_of g)) y ≡ bytes_of g → (g ≡ whole (take i y)) × (i ≡ length (bytes_of g))
+given-whole : (g : Given) (y : List ℕ) (i : ℕ) → Some i ≡ answer_of g → take (length (bytes_of g)) y ≡ bytes_of g → (g ≡ whole (take i y)) × (i ≡ length (bytes_of g))
 given-whole (whole l) y i e f =
     let z : i ≡ length l = text-text i (length l) e in
     (ap whole (sym (rw (sym z) at f)), z)
@@ -38,21 +37,21 @@ paired-refused₂ : (g h : Given) (x y : List ℕ) (n : ℕ) → g ≡ whole x �
 paired-refused₂ g h x y n e f = rw (e, f)
 
 -- What a transform answered and left in y, of a raw part r.
-pub record Told (t : Bool) (r y : List ℕ) (x : Transformed) : Type 0 where
+pub record Told (t : Bool) (r y : List ℕ) (x : Option ℕ) : Type 0 where
   pub len : length y ≡ length r
   pub answer : x ≡ answer_of (transform_of t r)
   pub bytes : take (length (bytes_of (transform_of t r))) y ≡ bytes_of (transform_of t r)
 
 -- it gave a string: the first i bytes of y
-told-whole : {t : Bool} {r y : List ℕ} {i : ℕ} → Told t r y (Text i) → transform_of t r ≡ whole (take i y)
+told-whole : {t : Bool} {r y : List ℕ} {i : ℕ} → Told t r y (Some i) → transform_of t r ≡ whole (take i y)
 told-whole {t} {r} {y} {i} w = (given-whole (transform_of t r) y i w.answer w.bytes).0
 
 -- which are no more than there are
-told-le : {t : Bool} {r y : List ℕ} {i : ℕ} → Told t r y (Text i) → i ≤ length y
+told-le : {t : Bool} {r y : List ℕ} {i : ℕ} → Told t r y (Some i) → i ≤ length y
 told-le {t} {r} {y} {i} w = omega (arith, (given-whole (transform_of t r) y i w.answer w.bytes).1, transform-le t r)
 
 -- it refused
-told-wrong : {t : Bool} {r y : List ℕ} → Told t r y Wrong → transform_of t r ≡ refused (bytes_of (transform_of t r))
+told-wrong : {t : Bool} {r y : List ℕ} → Told t r y None → transform_of t r ≡ refused (bytes_of (transform_of t r))
 told-wrong {t} {r} w = answer-refused (transform_of t r) w.answer
 
 -- The raw part of k bytes from a on was transformed in its place, and then that of m bytes from b on.
@@ -63,7 +62,7 @@ module _ (t : Bool) (a k b m n : ℕ) (d x y : List ℕ) (h : a + k ≤ b) (h' :
 
   -- both gave a string: the first still stands in its place, and both end within n bytes
   both :
-      (i j : ℕ) → Told false (mid_of a k d) x (Text i) → Told t (mid_of b m (put_mid a k d x)) y (Text j)
+      (i j : ℕ) → Told false (mid_of a k d) x (Some i) → Told t (mid_of b m (put_mid a k d x)) y (Some j)
       → (link (take i (drop a (put_mid b m (put_mid a k d x) y))) (take j (drop b (put_mid b m (put_mid a k d x) y))) n ≡ paired (text_of (mid_of a k d)) (transform_of t (mid_of b m d)) n)
       × (a + i ≤ n) × (b + j ≤ n)
   both i j u v =
@@ -78,7 +77,7 @@ module _ (t : Bool) (a k b m n : ℕ) (d x y : List ℕ) (h : a + k ≤ b) (h' :
       (rw (e, f) (sym (paired-whole _ _ _ _ n (told-whole u) z)), omega (arith, u.len), omega (arith, v.len))
 
   -- the second one refused
-  second-wrong : (i : ℕ) → Told false (mid_of a k d) x (Text i) → Told t (mid_of b m (put_mid a k d x)) y Wrong → none ≡ paired (text_of (mid_of a k d)) (transform_of t (mid_of b m d)) n
+  second-wrong : (i : ℕ) → Told false (mid_of a k d) x (Some i) → Told t (mid_of b m (put_mid a k d x)) y None → none ≡ paired (text_of (mid_of a k d)) (transform_of t (mid_of b m d)) n
   second-wrong i u v = sym (paired-refused₂ _ _ _ _ n (told-whole u) (ap (transform_of t) (sym (second u.len)) ∙ told-wrong v))
 
 -- The same for the parts that two spans name, which the code lends from the start to the end.
@@ -97,8 +96,8 @@ linked-reach t d a b n =
 module _ (t : Bool) (a b : Span) (n : ℕ) (d x y : List ℕ) (h : (a.start + a.len ≤ b.start) × (b.start + b.len ≤ n) × (n ≤ length d)) where
   -- both gave a string
   pub linked-both :
-      (i j : ℕ) → Told false (mid_of a.start (reach a) d) x (Text i)
-      → Told t (mid_of b.start (reach b) (put_mid a.start (reach a) d x)) y (Text j)
+      (i j : ℕ) → Told false (mid_of a.start (reach a) d) x (Some i)
+      → Told t (mid_of b.start (reach b) (put_mid a.start (reach a) d x)) y (Some j)
       → (link (take i (drop a.start (put_mid b.start (reach b) (put_mid a.start (reach a) d x) y))) (take j (drop b.start (put_mid b.start (reach b) (put_mid a.start (reach a) d x) y))) n ≡ linked t d a b n)
       × ((a.start + i ≤ n) × (b.start + j ≤ n))
   linked-both i j u v =
@@ -107,18 +106,18 @@ module _ (t : Bool) (a b : Span) (n : ℕ) (d x y : List ℕ) (h : (a.start + a.
 
   -- the second one refused
   pub linked-second :
-      (i : ℕ) → Told false (mid_of a.start (reach a) d) x (Text i)
-      → Told t (mid_of b.start (reach b) (put_mid a.start (reach a) d x)) y Wrong → none ≡ linked t d a b n
+      (i : ℕ) → Told false (mid_of a.start (reach a) d) x (Some i)
+      → Told t (mid_of b.start (reach b) (put_mid a.start (reach a) d x)) y None → none ≡ linked t d a b n
   linked-second i u v = second-wrong t a.start (reach a) b.start (reach b) n d x y (omega arith) (omega arith) (omega arith) i u v ∙ linked-reach t d a b n
 
 -- the first one refused
-pub linked-first : (t : Bool) (a b : Span) (n : ℕ) (d x : List ℕ) → Told false (mid_of a.start (reach a) d) x Wrong → none ≡ linked t d a b n
+pub linked-first : (t : Bool) (a b : Span) (n : ℕ) (d x : List ℕ) → Told false (mid_of a.start (reach a) d) x None → none ≡ linked t d a b n
 linked-first t a b n d x u = sym (paired-refused _ _ _ n (told-wrong u)) ∙ linked-reach t d a b n
 
 -- one part as both strings
 pub linked-shared :
     (a : Span) (n : ℕ) (d x : List ℕ) → (a.start + a.len ≤ n) × (n ≤ length d) → (i : ℕ)
-    → Told false (mid_of a.start (reach a) d) x (Text i)
+    → Told false (mid_of a.start (reach a) d) x (Some i)
     → (link (take i (drop a.start (put_mid a.start (reach a) d x))) (take i (drop a.start (put_mid a.start (reach a) d x))) n ≡ linked false d a a n)
     × ((a.start + i ≤ n) × (a.start + i ≤ n))
 linked-shared a n d x h i u =

@@ -1,6 +1,8 @@
 -- The laws of `specs/Text2target.antt`: the forms by the code's tests, where text and target stand, and that LF and a tail without
 -- a backtick behind the input change nothing.
 -- Assumes nothing.
+use Rattle.std.proofs.Common.{Option, Some, None}
+use Rattle.restructured_text.specs.Spans.{Spans}
 use Prim.Native.Nat.{ℕ, suc, ◌+◌, ◌-◌, ◌<◌, ◌≤◌}
 use native.Mathlib.Omega.{arith}
 use mathlib.Core.Path.{◌≡◌, refl, sym, ap, subst, subst⁻¹, ◌∙◌}
@@ -14,13 +16,9 @@ use Rattle.rst_bytes.specs.Appending.{free}
 use Rattle.rst_bytes.specs.Escaped.{is_stop, taking, escaped_of}
 use Rattle.rst_bytes.specs.Tag.{starts_with}
 use Rattle.rst_bytes.specs.Trim.{trim_of}
-use Rattle.rst_bytes.specs.declared.Part.{Part}
-use Rattle.rst_bytes.specs.declared.Part.TheVariants.{Taken, Refused}
 use Rattle.rst_bytes.proofs.EscapedLaws.{refused-taken, taken_is, taken-le, taken-from, at-stop, at_plain, at-end, taken_back, taking-le, taking-over, taking-fewer, taking-front, escaped-over}
 use Rattle.rst_bytes.proofs.Lists.{drop-next, drop-end}
 use Rattle.rst_bytes.proofs.TrimLaws.{trim-within}
-use Rattle.restructured_text.specs.declared.Spans.{Spans}
-use Rattle.restructured_text.specs.declared.Spans.TheVariants.{Parsed, Nothing}
 use Rattle.restructured_text.specs.Delimited.{delimited_of, ends_with, closing, backticked_of}
 use Rattle.restructured_text.specs.Text2target.{target_of, bracketed_of, inside_of, behind_of, text2target_of}
 use Rattle.restructured_text.proofs.PartLaws.{part-front}
@@ -33,44 +31,44 @@ part-one s k =
     ap (λ (j : ℕ). take j (drop 1 s)) e
 
 -- A target, by its last byte.
-pub target-dropped : (label : Bool) (t : List ℕ) → ends_with (0x5F ∷ []) t ≡ true → label ≡ true → target_of label t ≡ Taken (length t - 1)
+pub target-dropped : (label : Bool) (t : List ℕ) → ends_with (0x5F ∷ []) t ≡ true → label ≡ true → target_of label t ≡ Some (length t - 1)
 unfolding target_of
 target-dropped label t e l = rw l (simp (e, target_of))
 
-pub target-no-destination : (label : Bool) (t : List ℕ) → ends_with (0x5F ∷ []) t ≡ true → label ≡ false → target_of label t ≡ Refused
+pub target-no-destination : (label : Bool) (t : List ℕ) → ends_with (0x5F ∷ []) t ≡ true → label ≡ false → target_of label t ≡ None
 unfolding target_of
 target-no-destination label t e l = rw l (simp (e, target_of))
 
-pub target-no-label : (label : Bool) (t : List ℕ) → ends_with (0x5F ∷ []) t ≡ false → label ≡ true → target_of label t ≡ Refused
+pub target-no-label : (label : Bool) (t : List ℕ) → ends_with (0x5F ∷ []) t ≡ false → label ≡ true → target_of label t ≡ None
 unfolding target_of
 target-no-label label t e l = rw l (simp (e, target_of))
 
-pub target-all : (label : Bool) (t : List ℕ) → ends_with (0x5F ∷ []) t ≡ false → label ≡ false → target_of label t ≡ Taken (length t)
+pub target-all : (label : Bool) (t : List ℕ) → ends_with (0x5F ∷ []) t ≡ false → label ≡ false → target_of label t ≡ Some (length t)
 unfolding target_of
 target-all label t e l = rw l (simp (e, target_of))
 
 -- What stands between the backticks, by the code's tests: `rest` begins with the bracket.
 module _ (label : Bool) (s : List ℕ) where
-  pub inside-refused : escaped_of 0x3C 0x3C s ≡ Refused → inside_of label s ≡ Nothing
+  pub inside-refused : escaped_of 0x3C 0x3C s ≡ None → inside_of label s ≡ None
   unfolding inside_of
   inside-refused e = simp (e, inside_of)
 
-  module _ (m : ℕ) (rest : List ℕ) (e : escaped_of 0x3C 0x3C s ≡ Taken m) (is : rest ≡ drop m s) where
-    pub inside-open : delimited_of (0x3C ∷ []) 0x3C 0x3E (0x3E ∷ []) rest ≡ Refused → inside_of label s ≡ Nothing
+  module _ (m : ℕ) (rest : List ℕ) (e : escaped_of 0x3C 0x3C s ≡ Some m) (is : rest ≡ drop m s) where
+    pub inside-open : delimited_of (0x3C ∷ []) 0x3C 0x3E (0x3E ∷ []) rest ≡ None → inside_of label s ≡ None
     unfolding inside_of
     inside-open f = simp (e, ← is, f, inside_of)
 
-    module _ (k : ℕ) (f : delimited_of (0x3C ∷ []) 0x3C 0x3E (0x3E ∷ []) rest ≡ Taken k) where
-      pub inside-more : (k + 2 ≡ length rest → ⊥) → inside_of label s ≡ Nothing
+    module _ (k : ℕ) (f : delimited_of (0x3C ∷ []) 0x3C 0x3E (0x3E ∷ []) rest ≡ Some k) where
+      pub inside-more : (k + 2 ≡ length rest → ⊥) → inside_of label s ≡ None
       unfolding inside_of
       inside-more g = simp (e, ← is, f, ne_eqb _ _ g, bracketed_of, inside_of)
 
       module _ (t : List ℕ) (g : k + 2 ≡ length rest) (it : t ≡ take k (drop 1 rest)) where
-        pub inside-wrong : target_of label t ≡ Refused → inside_of label s ≡ Nothing
+        pub inside-wrong : target_of label t ≡ None → inside_of label s ≡ None
         unfolding inside_of
         inside-wrong h = simp (e, ← is, f, eq-eqb _ _ g, ← it, h, bracketed_of, inside_of)
 
-        pub inside-parsed : (n : ℕ) (text : List ℕ) → target_of label t ≡ Taken n → text ≡ take (trim_of (take m s)) (take m s) → inside_of label s ≡ Parsed (record { start = 0; len = length text }) (record { start = m + 1; len = n }) (length s)
+        pub inside-parsed : (n : ℕ) (text : List ℕ) → target_of label t ≡ Some n → text ≡ take (trim_of (take m s)) (take m s) → inside_of label s ≡ Some ((record { start = 0; len = length text }), (record { start = m + 1; len = n }), (length s))
         unfolding inside_of
         inside-parsed n text h j =
             let l : length text ≡ trim_of (take m s) = ap length j ∙ length-take-le (trim_of (take m s)) (take m s) (trim-within (take m s)) in
@@ -78,12 +76,12 @@ module _ (label : Bool) (s : List ℕ) where
 
 -- The whole, by the code's tests: `end` bytes are consumed.
 module _ (anonym label : Bool) (s : List ℕ) where
-  pub form-none : backticked_of anonym s ≡ Refused → text2target_of anonym label s ≡ Nothing
+  pub form-none : backticked_of anonym s ≡ None → text2target_of anonym label s ≡ None
   unfolding text2target_of
   form-none e = simp (e, text2target_of)
 
-  module _ (n : ℕ) (v : List ℕ) (e : backticked_of anonym s ≡ Taken n) (iv : v ≡ drop (n + 1 + length (closing anonym)) s) where
-    form-more : starts_with (0x5F ∷ []) v ≡ true → text2target_of anonym label s ≡ Nothing
+  module _ (n : ℕ) (v : List ℕ) (e : backticked_of anonym s ≡ Some n) (iv : v ≡ drop (n + 1 + length (closing anonym)) s) where
+    form-more : starts_with (0x5F ∷ []) v ≡ true → text2target_of anonym label s ≡ None
     unfolding text2target_of
     form-more f = simp (e, ← iv, f, text2target_of)
 
@@ -92,25 +90,25 @@ module _ (anonym label : Bool) (s : List ℕ) where
     form-inside w f iw = simp (e, ← iv, f, ← iw, text2target_of)
 
   -- the same, `end` being what the code counts
-  module _ (n end : ℕ) (v w : List ℕ) (e : backticked_of anonym s ≡ Taken n) (ie : end ≡ n + 1 + length (closing anonym)) (iv : v ≡ drop end s) where
-    pub form-follows : starts_with (0x5F ∷ []) v ≡ true → text2target_of anonym label s ≡ Nothing
+  module _ (n end : ℕ) (v w : List ℕ) (e : backticked_of anonym s ≡ Some n) (ie : end ≡ n + 1 + length (closing anonym)) (iv : v ≡ drop end s) where
+    pub form-follows : starts_with (0x5F ∷ []) v ≡ true → text2target_of anonym label s ≡ None
     form-follows f = form-more n v e (iv ∙ ap (λ (k : ℕ). drop k s) ie) f
 
     module _ (f : starts_with (0x5F ∷ []) v ≡ false) (iw : w ≡ take n (drop 1 s)) where
-      pub form-wrong : inside_of label w ≡ Nothing → text2target_of anonym label s ≡ Nothing
+      pub form-wrong : inside_of label w ≡ None → text2target_of anonym label s ≡ None
       form-wrong g = form-inside n v e (iv ∙ ap (λ (k : ℕ). drop k s) ie) w f iw ∙ ap (behind_of _) g
 
-      pub form-parsed : (x : Spans) → inside_of label w ≡ x → text2target_of anonym label s ≡ behind_of end x
+      pub form-parsed : (x : Option Spans) → inside_of label w ≡ x → text2target_of anonym label s ≡ behind_of end x
       form-parsed x g = form-inside n v e (iv ∙ ap (λ (k : ℕ). drop k s) ie) w f iw ∙ ap (behind_of _) g ∙ ap (λ (k : ℕ). behind_of k x) (sym ie)
 
 -- Spans that stand one behind the other within the n bytes, at least one, that are consumed of a text of
 -- `size` bytes.
-abbrev pub Apart : ℕ → Spans → Type 0
-Apart size (Parsed a b n) = (a.start + a.len ≤ b.start) × (b.start + b.len ≤ n) × (n ≤ size) × (0 < n)
-Apart size Nothing = Unit {0}
+abbrev pub Apart : ℕ → Option Spans → Type 0
+Apart size (Some (a, b, n)) = (a.start + a.len ≤ b.start) × (b.start + b.len ≤ n) × (n ≤ size) × (0 < n)
+Apart size None = Unit {0}
 
 -- a target is no longer than it was
-target-le : (label : Bool) (t : List ℕ) (n : ℕ) → target_of label t ≡ Taken n → n ≤ length t
+target-le : (label : Bool) (t : List ℕ) (n : ℕ) → target_of label t ≡ Some n → n ≤ length t
 target-le label t n e = go label (ends_with (0x5F ∷ []) t) refl refl
   where
     go : (l x : Bool) → label ≡ l → ends_with (0x5F ∷ []) t ≡ x → n ≤ length t
@@ -123,9 +121,9 @@ target-le label t n e = go label (ends_with (0x5F ∷ []) t) refl refl
 pub inside-apart : (label : Bool) (s : List ℕ) → Apart (length s) (inside_of label s)
 inside-apart label s = text (escaped_of 0x3C 0x3C s) refl
   where
-    target : (m k : ℕ) → escaped_of 0x3C 0x3C s ≡ Taken m → delimited_of (0x3C ∷ []) 0x3C 0x3E (0x3E ∷ []) (drop m s) ≡ Taken k → k + 2 ≡ length (drop m s) → (x : Part) → target_of label (take k (drop 1 (drop m s))) ≡ x → Apart (length s) (inside_of label s)
-    target m k e f g Refused h = subst⁻¹ (Apart (length s)) (inside-wrong label s m _ e refl k f _ g refl h) tt
-    target m k e f g (Taken n) h =
+    target : (m k : ℕ) → escaped_of 0x3C 0x3C s ≡ Some m → delimited_of (0x3C ∷ []) 0x3C 0x3E (0x3E ∷ []) (drop m s) ≡ Some k → k + 2 ≡ length (drop m s) → (x : Option ℕ) → target_of label (take k (drop 1 (drop m s))) ≡ x → Apart (length s) (inside_of label s)
+    target m k e f g None h = subst⁻¹ (Apart (length s)) (inside-wrong label s m _ e refl k f _ g refl h) tt
+    target m k e f g (Some n) h =
         let l = target-le label (take k (drop 1 (drop m s))) n h in
         let w = trim-within (take m s) in
         let y = taken-le 0x3C 0x3C s m e in
@@ -136,27 +134,27 @@ inside-apart label s = text (escaped_of 0x3C 0x3C s) refl
           omega (arith, length-drop m s),
         )
 
-    bracket : (m k : ℕ) → escaped_of 0x3C 0x3C s ≡ Taken m → delimited_of (0x3C ∷ []) 0x3C 0x3E (0x3E ∷ []) (drop m s) ≡ Taken k → (x : Bool) → eqb (k + 2) (length (drop m s)) ≡ x → Apart (length s) (inside_of label s)
+    bracket : (m k : ℕ) → escaped_of 0x3C 0x3C s ≡ Some m → delimited_of (0x3C ∷ []) 0x3C 0x3E (0x3E ∷ []) (drop m s) ≡ Some k → (x : Bool) → eqb (k + 2) (length (drop m s)) ≡ x → Apart (length s) (inside_of label s)
     bracket m k e f true g = target m k e f (eqb-true _ _ g) _ refl
     bracket m k e f false g = subst⁻¹ (Apart (length s)) (inside-more label s m _ e refl k f (eqb-false _ _ g)) tt
 
-    opened : (m : ℕ) → escaped_of 0x3C 0x3C s ≡ Taken m → (x : Part) → delimited_of (0x3C ∷ []) 0x3C 0x3E (0x3E ∷ []) (drop m s) ≡ x → Apart (length s) (inside_of label s)
-    opened m e (Taken k) f = bracket m k e f _ refl
-    opened m e Refused f = subst⁻¹ (Apart (length s)) (inside-open label s m _ e refl f) tt
+    opened : (m : ℕ) → escaped_of 0x3C 0x3C s ≡ Some m → (x : Option ℕ) → delimited_of (0x3C ∷ []) 0x3C 0x3E (0x3E ∷ []) (drop m s) ≡ x → Apart (length s) (inside_of label s)
+    opened m e (Some k) f = bracket m k e f _ refl
+    opened m e None f = subst⁻¹ (Apart (length s)) (inside-open label s m _ e refl f) tt
 
-    text : (x : Part) → escaped_of 0x3C 0x3C s ≡ x → Apart (length s) (inside_of label s)
-    text (Taken m) e = opened m e _ refl
-    text Refused e = subst⁻¹ (Apart (length s)) (inside-refused label s e) tt
+    text : (x : Option ℕ) → escaped_of 0x3C 0x3C s ≡ x → Apart (length s) (inside_of label s)
+    text (Some m) e = opened m e _ refl
+    text None e = subst⁻¹ (Apart (length s)) (inside-refused label s e) tt
 
 -- and so they do in the whole
 pub text2target-apart : (anonym label : Bool) (s : List ℕ) → Apart (length s) (text2target_of anonym label s)
 text2target-apart anonym label s = run (backticked_of anonym s) refl
   where
-    moved : (n : ℕ) (x : Spans) → n + 1 + length (closing anonym) ≤ length s → Apart n x → Apart (length s) (behind_of (n + 1 + length (closing anonym)) x)
-    moved n (Parsed a b k) h w = (omega arith, omega arith, h, omega arith)
-    moved n Nothing h w = tt
+    moved : (n : ℕ) (x : Option Spans) → n + 1 + length (closing anonym) ≤ length s → Apart n x → Apart (length s) (behind_of (n + 1 + length (closing anonym)) x)
+    moved n (Some (a, b, k)) h w = (omega arith, omega arith, h, omega arith)
+    moved n None h w = tt
 
-    more : (n : ℕ) → backticked_of anonym s ≡ Taken n → (x : Bool) → starts_with (0x5F ∷ []) (drop (n + 1 + length (closing anonym)) s) ≡ x → Apart (length s) (text2target_of anonym label s)
+    more : (n : ℕ) → backticked_of anonym s ≡ Some n → (x : Bool) → starts_with (0x5F ∷ []) (drop (n + 1 + length (closing anonym)) s) ≡ x → Apart (length s) (text2target_of anonym label s)
     more n e true f = subst⁻¹ (Apart (length s)) (form-more anonym label s n _ e refl f) tt
     more n e false f =
         let h = backticked-within anonym s n e in
@@ -164,15 +162,15 @@ text2target-apart anonym label s = run (backticked_of anonym s) refl
         subst⁻¹ (Apart (length s)) (form-inside anonym label s n _ e refl _ f refl)
         (moved n (inside_of label (take n (drop 1 s))) h (subst (λ (k : ℕ). Apart k (inside_of label (take n (drop 1 s)))) l (inside-apart label (take n (drop 1 s)))))
 
-    run : (x : Part) → backticked_of anonym s ≡ x → Apart (length s) (text2target_of anonym label s)
-    run (Taken n) e = more n e _ refl
-    run Refused e = subst⁻¹ (Apart (length s)) (form-none anonym label s e) tt
+    run : (x : Option ℕ) → backticked_of anonym s ≡ x → Apart (length s) (text2target_of anonym label s)
+    run (Some n) e = more n e _ refl
+    run None e = subst⁻¹ (Apart (length s)) (form-none anonym label s e) tt
 
 -- LF and a tail without a backtick behind the input change nothing
 pub text2target-lf : (anonym label : Bool) (s t : List ℕ) → free 0x60 0x60 t ≡ true → text2target_of anonym label (s ++ 10 ∷ t) ≡ text2target_of anonym label s
 text2target-lf anonym label s t h = run (backticked_of anonym s) refl
   where
-    more : (n : ℕ) → backticked_of anonym s ≡ Taken n → (x : Bool) → starts_with (0x5F ∷ []) (drop (n + 1 + length (closing anonym)) s) ≡ x → text2target_of anonym label (s ++ 10 ∷ t) ≡ text2target_of anonym label s
+    more : (n : ℕ) → backticked_of anonym s ≡ Some n → (x : Bool) → starts_with (0x5F ∷ []) (drop (n + 1 + length (closing anonym)) s) ≡ x → text2target_of anonym label (s ++ 10 ∷ t) ≡ text2target_of anonym label s
     more n e x f =
         let w = backticked-within anonym s n e in
         let iv = sym (drop-append-le (n + 1 + length (closing anonym)) s (10 ∷ t) w) in
@@ -181,40 +179,40 @@ text2target-lf anonym label s t h = run (backticked_of anonym s) refl
         let f' = starts-underscore (drop (n + 1 + length (closing anonym)) s) t ∙ f in
         go x f f' e' iv iw
       where
-        go : (x : Bool) → starts_with (0x5F ∷ []) (drop (n + 1 + length (closing anonym)) s) ≡ x → starts_with (0x5F ∷ []) (drop (n + 1 + length (closing anonym)) s ++ 10 ∷ t) ≡ x → backticked_of anonym (s ++ 10 ∷ t) ≡ Taken n → drop (n + 1 + length (closing anonym)) s ++ 10 ∷ t ≡ drop (n + 1 + length (closing anonym)) (s ++ 10 ∷ t) → take n (drop 1 s) ≡ take n (drop 1 (s ++ 10 ∷ t)) → text2target_of anonym label (s ++ 10 ∷ t) ≡ text2target_of anonym label s
+        go : (x : Bool) → starts_with (0x5F ∷ []) (drop (n + 1 + length (closing anonym)) s) ≡ x → starts_with (0x5F ∷ []) (drop (n + 1 + length (closing anonym)) s ++ 10 ∷ t) ≡ x → backticked_of anonym (s ++ 10 ∷ t) ≡ Some n → drop (n + 1 + length (closing anonym)) s ++ 10 ∷ t ≡ drop (n + 1 + length (closing anonym)) (s ++ 10 ∷ t) → take n (drop 1 s) ≡ take n (drop 1 (s ++ 10 ∷ t)) → text2target_of anonym label (s ++ 10 ∷ t) ≡ text2target_of anonym label s
         go true f f' e' iv iw = form-more anonym label (s ++ 10 ∷ t) n _ e' iv f' ∙ sym (form-more anonym label s n _ e refl f)
         go false f f' e' iv iw = form-inside anonym label (s ++ 10 ∷ t) n _ e' iv _ f' iw ∙ sym (form-inside anonym label s n _ e refl _ f refl)
 
-    run : (x : Part) → backticked_of anonym s ≡ x → text2target_of anonym label (s ++ 10 ∷ t) ≡ text2target_of anonym label s
-    run (Taken n) e = more n e _ refl
-    run Refused e = form-none anonym label (s ++ 10 ∷ t) (backticked-lf anonym s t h ∙ e) ∙ sym (form-none anonym label s e)
+    run : (x : Option ℕ) → backticked_of anonym s ≡ x → text2target_of anonym label (s ++ 10 ∷ t) ≡ text2target_of anonym label s
+    run (Some n) e = more n e _ refl
+    run None e = form-none anonym label (s ++ 10 ∷ t) (backticked-lf anonym s t h ∙ e) ∙ sym (form-none anonym label s e)
 
 -- The first spans are none; or the second are the same with k more bytes of text before them, where the text begins at place t.
-abbrev pub Longer : ℕ → ℕ → Spans → Spans → Type 0
-Longer t k (Parsed a b n) y =
-    (a.start ≡ t) × (y ≡ Parsed (record { start = t; len = k + a.len }) (record { start = k + b.start; len = b.len }) (k + n))
-Longer t k Nothing y = Unit {0}
+abbrev pub Longer : ℕ → ℕ → Option Spans → Option Spans → Type 0
+Longer t k (Some (a, b, n)) y =
+    (a.start ≡ t) × (y ≡ Some ((record { start = t; len = k + a.len }), (record { start = k + b.start; len = b.len }), (k + n)))
+Longer t k None y = Unit {0}
 
 -- spans that begin and end at the same places
-spans-same : (t n : ℕ) {a a' b b' c c' : ℕ} → a ≡ a' → b ≡ b' → c ≡ c' → Parsed (record { start = t; len = a }) (record { start = b; len = n }) c ≡ Parsed (record { start = t; len = a' }) (record { start = b'; len = n }) c'
+spans-same : (t n : ℕ) {a a' b b' c c' : ℕ} → a ≡ a' → b ≡ b' → c ≡ c' → ◌≡◌ {A = Option Spans} (Some (record { start = t; len = a }, record { start = b; len = n }, c)) (Some (record { start = t; len = a' }, record { start = b'; len = n }, c'))
 spans-same t n {a} {a'} {b} {b'} {c} {c'} e f g =
-    ap (λ (x : ℕ). Parsed (record { start = t; len = x }) (record { start = b; len = n }) c) e
-    ∙ ap (λ (x : ℕ). Parsed (record { start = t; len = a' }) (record { start = x; len = n }) c) f
-    ∙ ap (λ (x : ℕ). Parsed (record { start = t; len = a' }) (record { start = b'; len = n }) x) g
+    ap (λ (x : ℕ). Some ((record { start = t; len = x }), (record { start = b; len = n }), c)) e
+    ∙ ap (λ (x : ℕ). Some ((record { start = t; len = a' }), (record { start = x; len = n }), c)) f
+    ∙ ap (λ (x : ℕ). Some ((record { start = t; len = a' }), (record { start = b'; len = n }), x)) g
 
 -- spans of the inside as spans of the whole
-longer-behind : (k n n' : ℕ) (x y : Spans) → n' ≡ k + n → Longer 0 k x y → Longer 1 k (behind_of n x) (behind_of n' y)
-longer-behind k n n' (Parsed a b m) y h w =
+longer-behind : (k n n' : ℕ) (x y : Option Spans) → n' ≡ k + n → Longer 0 k x y → Longer 1 k (behind_of n x) (behind_of n' y)
+longer-behind k n n' (Some (a, b, m)) y h w =
     let z : a.start + 1 ≡ 1 = omega (arith, w.0) in
     let u : k + b.start + 1 ≡ k + (b.start + 1) = omega arith in
     (z, ap (behind_of n') w.1 ∙ spans-same 1 b.len refl u h)
-longer-behind k n n' Nothing y h w = tt
+longer-behind k n n' None y h w = tt
 
 -- A text l that `escaped` takes as a whole, and behind which a text is trimmed as if it stood alone: what is found behind l is found
 -- with l in front of it too.
 module _
-    (label : Bool) (l : List ℕ) (some : 0 < length l) (ticked : taking 0x60 0x60 false 0 l ≡ Taken (length l))
-    (angled : taking 0x3C 0x3C false 0 l ≡ Taken (length l)) (trimmed : (t : List ℕ) → trim_of (l ++ t) ≡ length l + trim_of t)
+    (label : Bool) (l : List ℕ) (some : 0 < length l) (ticked : taking 0x60 0x60 false 0 l ≡ Some (length l))
+    (angled : taking 0x3C 0x3C false 0 l ≡ Some (length l)) (trimmed : (t : List ℕ) → trim_of (l ++ t) ≡ length l + trim_of t)
   where
     inside-longer : (s : List ℕ) → Longer 0 (length l) (inside_of label s) (inside_of label (l ++ s))
     unfolding is_stop
@@ -230,62 +228,62 @@ module _
               trimmed (take m s),
             )
 
-        target : (m k : ℕ) → escaped_of 0x3C 0x3C s ≡ Taken m → delimited_of (0x3C ∷ []) 0x3C 0x3E (0x3E ∷ []) (drop m s) ≡ Taken k → k + 2 ≡ length (drop m s) → (x : Part) → target_of label (take k (drop 1 (drop m s))) ≡ x → Longer 0 (length l) (inside_of label s) (inside_of label (l ++ s))
-        target m k e f g Refused h = subst⁻¹ (λ (x : Spans). Longer 0 (length l) x (inside_of label (l ++ s))) (inside-wrong label s m _ e refl k f _ g refl h) tt
-        target m k e f g (Taken n) h =
+        target : (m k : ℕ) → escaped_of 0x3C 0x3C s ≡ Some m → delimited_of (0x3C ∷ []) 0x3C 0x3E (0x3E ∷ []) (drop m s) ≡ Some k → k + 2 ≡ length (drop m s) → (x : Option ℕ) → target_of label (take k (drop 1 (drop m s))) ≡ x → Longer 0 (length l) (inside_of label s) (inside_of label (l ++ s))
+        target m k e f g None h = subst⁻¹ (λ (x : Option Spans). Longer 0 (length l) x (inside_of label (l ++ s))) (inside-wrong label s m _ e refl k f _ g refl h) tt
+        target m k e f g (Some n) h =
             let e' = escaped-over 0x3C 0x3C l s m refl some angled e in
             let z : length l + m + 1 ≡ length l + (m + 1) = omega arith in
-            subst⁻¹ (λ (x : Spans). Longer 0 (length l) x (inside_of label (l ++ s))) (inside-parsed label s m _ e refl k f _ g refl n _ h refl) (
+            subst⁻¹ (λ (x : Option Spans). Longer 0 (length l) x (inside_of label (l ++ s))) (inside-parsed label s m _ e refl k f _ g refl n _ h refl) (
               refl,
               inside-parsed label (l ++ s) (length l + m) (drop m s) e' (sym (drop-append-add l s m)) k f _ g refl n _ h refl ∙ spans-same 0 n (trim-len m) z (length-append l s),
             )
 
-        bracket : (m k : ℕ) → escaped_of 0x3C 0x3C s ≡ Taken m → delimited_of (0x3C ∷ []) 0x3C 0x3E (0x3E ∷ []) (drop m s) ≡ Taken k → (x : Bool) → eqb (k + 2) (length (drop m s)) ≡ x → Longer 0 (length l) (inside_of label s) (inside_of label (l ++ s))
+        bracket : (m k : ℕ) → escaped_of 0x3C 0x3C s ≡ Some m → delimited_of (0x3C ∷ []) 0x3C 0x3E (0x3E ∷ []) (drop m s) ≡ Some k → (x : Bool) → eqb (k + 2) (length (drop m s)) ≡ x → Longer 0 (length l) (inside_of label s) (inside_of label (l ++ s))
         bracket m k e f true g = target m k e f (eqb-true _ _ g) _ refl
-        bracket m k e f false g = subst⁻¹ (λ (x : Spans). Longer 0 (length l) x (inside_of label (l ++ s))) (inside-more label s m _ e refl k f (eqb-false _ _ g)) tt
+        bracket m k e f false g = subst⁻¹ (λ (x : Option Spans). Longer 0 (length l) x (inside_of label (l ++ s))) (inside-more label s m _ e refl k f (eqb-false _ _ g)) tt
 
-        opened : (m : ℕ) → escaped_of 0x3C 0x3C s ≡ Taken m → (x : Part) → delimited_of (0x3C ∷ []) 0x3C 0x3E (0x3E ∷ []) (drop m s) ≡ x → Longer 0 (length l) (inside_of label s) (inside_of label (l ++ s))
-        opened m e (Taken k) f = bracket m k e f _ refl
-        opened m e Refused f = subst⁻¹ (λ (x : Spans). Longer 0 (length l) x (inside_of label (l ++ s))) (inside-open label s m _ e refl f) tt
+        opened : (m : ℕ) → escaped_of 0x3C 0x3C s ≡ Some m → (x : Option ℕ) → delimited_of (0x3C ∷ []) 0x3C 0x3E (0x3E ∷ []) (drop m s) ≡ x → Longer 0 (length l) (inside_of label s) (inside_of label (l ++ s))
+        opened m e (Some k) f = bracket m k e f _ refl
+        opened m e None f = subst⁻¹ (λ (x : Option Spans). Longer 0 (length l) x (inside_of label (l ++ s))) (inside-open label s m _ e refl f) tt
 
-        text : (x : Part) → escaped_of 0x3C 0x3C s ≡ x → Longer 0 (length l) (inside_of label s) (inside_of label (l ++ s))
-        text (Taken m) e = opened m e _ refl
-        text Refused e = subst⁻¹ (λ (x : Spans). Longer 0 (length l) x (inside_of label (l ++ s))) (inside-refused label s e) tt
+        text : (x : Option ℕ) → escaped_of 0x3C 0x3C s ≡ x → Longer 0 (length l) (inside_of label s) (inside_of label (l ++ s))
+        text (Some m) e = opened m e _ refl
+        text None e = subst⁻¹ (λ (x : Option Spans). Longer 0 (length l) x (inside_of label (l ++ s))) (inside-refused label s e) tt
 
     pub text2target-longer : (anonym : Bool) (s : List ℕ) → Longer 1 (length l) (text2target_of anonym label (0x60 ∷ s)) (text2target_of anonym label (0x60 ∷ l ++ s))
     unfolding is_stop starts_with
     text2target-longer anonym s = run (backticked_of anonym (0x60 ∷ s)) refl
       where
-        more : (n : ℕ) → backticked_of anonym (0x60 ∷ s) ≡ Taken n → (x : Bool) → starts_with (0x5F ∷ []) (drop (n + 1 + length (closing anonym)) (0x60 ∷ s)) ≡ x → Longer 1 (length l) (text2target_of anonym label (0x60 ∷ s)) (text2target_of anonym label (0x60 ∷ l ++ s))
-        more n e true f = subst⁻¹ (λ (x : Spans). Longer 1 (length l) x (text2target_of anonym label (0x60 ∷ l ++ s))) (form-more anonym label (0x60 ∷ s) n _ e refl f) tt
+        more : (n : ℕ) → backticked_of anonym (0x60 ∷ s) ≡ Some n → (x : Bool) → starts_with (0x5F ∷ []) (drop (n + 1 + length (closing anonym)) (0x60 ∷ s)) ≡ x → Longer 1 (length l) (text2target_of anonym label (0x60 ∷ s)) (text2target_of anonym label (0x60 ∷ l ++ s))
+        more n e true f = subst⁻¹ (λ (x : Option Spans). Longer 1 (length l) x (text2target_of anonym label (0x60 ∷ l ++ s))) (form-more anonym label (0x60 ∷ s) n _ e refl f) tt
         more n e false f =
             let c = length (closing anonym) in
             let d = delimited-is (0x60 ∷ []) 0x60 0x60 (closing anonym) (0x60 ∷ s) n e in
             let i = escaped-over 0x60 0x60 l s n refl some ticked d.inner in
-            let e' : backticked_of anonym (0x60 ∷ l ++ s) ≡ Taken (length l + n) = delimited-taken (0x60 ∷ []) 0x60 0x60 (closing anonym) (0x60 ∷ l ++ s) (l ++ s) refl refl (length l + n) (drop n s) i (sym (drop-append-add l s n)) d.ends in
+            let e' : backticked_of anonym (0x60 ∷ l ++ s) ≡ Some (length l + n) = delimited-taken (0x60 ∷ []) 0x60 0x60 (closing anonym) (0x60 ∷ l ++ s) (l ++ s) refl refl (length l + n) (drop n s) i (sym (drop-append-add l s n)) d.ends in
             let z : n + 1 + c ≡ suc (n + c) = omega arith in
             let z' : length l + n + 1 + c ≡ suc (length l + (n + c)) = omega arith in
             let v : drop (n + 1 + c) (0x60 ∷ s) ≡ drop (length l + n + 1 + c) (0x60 ∷ l ++ s) = ap (λ (j : ℕ). drop j (0x60 ∷ s)) z ∙ sym (drop-append-add l s (n + c)) ∙ ap (λ (j : ℕ). drop j (0x60 ∷ l ++ s)) (sym z') in
             let y : length l + n + 1 + c ≡ length l + (n + 1 + c) = omega arith in
-            subst⁻¹ (λ (x : Spans). Longer 1 (length l) x (text2target_of anonym label (0x60 ∷ l ++ s))) (form-inside anonym label (0x60 ∷ s) n _ e refl (take n s) f refl)
+            subst⁻¹ (λ (x : Option Spans). Longer 1 (length l) x (text2target_of anonym label (0x60 ∷ l ++ s))) (form-inside anonym label (0x60 ∷ s) n _ e refl (take n s) f refl)
             (subst⁻¹ (Longer 1 (length l) (behind_of (n + 1 + c) (inside_of label (take n s)))) (form-inside anonym label (0x60 ∷ l ++ s) (length l + n) (drop (n + 1 + c) (0x60 ∷ s)) e' v (l ++ take n s) f (sym (take-append-add l s n)))
             (longer-behind (length l) (n + 1 + c) (length l + n + 1 + c) (inside_of label (take n s)) (inside_of label (l ++ take n s)) y (inside-longer (take n s))))
 
-        run : (x : Part) → backticked_of anonym (0x60 ∷ s) ≡ x → Longer 1 (length l) (text2target_of anonym label (0x60 ∷ s)) (text2target_of anonym label (0x60 ∷ l ++ s))
-        run (Taken n) e = more n e _ refl
-        run Refused e = subst⁻¹ (λ (x : Spans). Longer 1 (length l) x (text2target_of anonym label (0x60 ∷ l ++ s))) (form-none anonym label (0x60 ∷ s) e) tt
+        run : (x : Option ℕ) → backticked_of anonym (0x60 ∷ s) ≡ x → Longer 1 (length l) (text2target_of anonym label (0x60 ∷ s)) (text2target_of anonym label (0x60 ∷ l ++ s))
+        run (Some n) e = more n e _ refl
+        run None e = subst⁻¹ (λ (x : Option Spans). Longer 1 (length l) x (text2target_of anonym label (0x60 ∷ l ++ s))) (form-none anonym label (0x60 ∷ s) e) tt
 
 -- Where the bytes between the backticks hold nothing, there is no form.
-form-empty : (anonym label : Bool) (s : List ℕ) → ((n : ℕ) → backticked_of anonym s ≡ Taken n → inside_of label (take n (drop 1 s)) ≡ Nothing) → text2target_of anonym label s ≡ Nothing
+form-empty : (anonym label : Bool) (s : List ℕ) → ((n : ℕ) → backticked_of anonym s ≡ Some n → inside_of label (take n (drop 1 s)) ≡ None) → text2target_of anonym label s ≡ None
 form-empty anonym label s h = run (backticked_of anonym s) refl
   where
-    more : (n : ℕ) → backticked_of anonym s ≡ Taken n → (x : Bool) → starts_with (0x5F ∷ []) (drop (n + 1 + length (closing anonym)) s) ≡ x → text2target_of anonym label s ≡ Nothing
+    more : (n : ℕ) → backticked_of anonym s ≡ Some n → (x : Bool) → starts_with (0x5F ∷ []) (drop (n + 1 + length (closing anonym)) s) ≡ x → text2target_of anonym label s ≡ None
     more n e true f = form-more anonym label s n _ e refl f
     more n e false f = form-inside anonym label s n _ e refl _ f refl ∙ ap (behind_of _) (h n e)
 
-    run : (x : Part) → backticked_of anonym s ≡ x → text2target_of anonym label s ≡ Nothing
-    run (Taken n) e = more n e _ refl
-    run Refused e = form-none anonym label s e
+    run : (x : Option ℕ) → backticked_of anonym s ≡ x → text2target_of anonym label s ≡ None
+    run (Some n) e = more n e _ refl
+    run None e = form-none anonym label s e
 
 -- a byte that is no backtick and no <
 tick-only : (b : ℕ) → is_stop 0x60 0x3C b ≡ false → is_stop 0x60 0x60 b ≡ false
@@ -306,74 +304,74 @@ angle-only b = go (eqb b 0x60) (eqb b 0x3C)
     go false false e = refl
 
 -- a text that is taken as a whole up to both is taken up to each
-pub ticked : (l : List ℕ) → taking 0x60 0x3C false 0 l ≡ Taken (length l) → taking 0x60 0x60 false 0 l ≡ Taken (length l)
+pub ticked : (l : List ℕ) → taking 0x60 0x3C false 0 l ≡ Some (length l) → taking 0x60 0x60 false 0 l ≡ Some (length l)
 ticked l e = taking-fewer 0x60 0x3C 0x60 0x60 tick-only l false 0 (length l) (omega arith) e
 
-pub angled : (l : List ℕ) → taking 0x60 0x3C false 0 l ≡ Taken (length l) → taking 0x3C 0x3C false 0 l ≡ Taken (length l)
+pub angled : (l : List ℕ) → taking 0x60 0x3C false 0 l ≡ Some (length l) → taking 0x3C 0x3C false 0 l ≡ Some (length l)
 angled l e = taking-fewer 0x60 0x3C 0x3C 0x3C angle-only l false 0 (length l) (omega arith) e
 
 -- A front of k bytes of s is taken as a whole up to both.
-module _ (s : List ℕ) (k : ℕ) (e : taking 0x60 0x3C false 0 (take k s) ≡ Taken k) (h : k < length s) where
+module _ (s : List ℕ) (k : ℕ) (e : taking 0x60 0x3C false 0 (take k s) ≡ Some k) (h : k < length s) where
   front-len : length (take k s) ≡ k
   front-len = length-take-le k s (omega arith)
 
-  front : taking 0x60 0x3C false 0 (take k s) ≡ Taken (length (take k s))
-  front = e ∙ ap Taken (sym front-len)
+  front : taking 0x60 0x3C false 0 (take k s) ≡ Some (length (take k s))
+  front = e ∙ ap Some (sym front-len)
 
   -- what stands behind it is read up to a backtick, and up to <, as if it stood alone
   tick-over : taking 0x60 0x60 false 0 s ≡ taking 0x60 0x60 false k (drop k s)
   tick-over =
       ap (taking 0x60 0x60 false 0) (sym (take-append-drop k s))
-      ∙ taking-over 0x60 0x60 (take k s) (drop k s) false 0 k (omega (arith, front-len)) (ticked (take k s) front ∙ ap Taken front-len)
+      ∙ taking-over 0x60 0x60 (take k s) (drop k s) false 0 k (omega (arith, front-len)) (ticked (take k s) front ∙ ap Some front-len)
 
   angle-over : taking 0x3C 0x3C false 0 s ≡ taking 0x3C 0x3C false k (drop k s)
   angle-over =
       ap (taking 0x3C 0x3C false 0) (sym (take-append-drop k s))
-      ∙ taking-over 0x3C 0x3C (take k s) (drop k s) false 0 k (omega (arith, front-len)) (angled (take k s) front ∙ ap Taken front-len)
+      ∙ taking-over 0x3C 0x3C (take k s) (drop k s) false 0 k (omega (arith, front-len)) (angled (take k s) front ∙ ap Some front-len)
 
   -- if a backtick stands there, it is all that is taken up to one
-  tick-taken : get_or s k 0 ≡ 0x60 → taking 0x60 0x60 false 0 s ≡ Taken k
+  tick-taken : get_or s k 0 ≡ 0x60 → taking 0x60 0x60 false 0 s ≡ Some k
   unfolding is_stop
   tick-taken f = tick-over ∙ at-stop 0x60 0x60 s k h (λ (g : get_or s k 0 ≡ 0x5C). absurd (omega (arith, f, g))) (simp (eq-eqb _ _ f))
 
   -- if < stands there, it is all that is taken up to one, and up to a backtick more is
-  angle-taken : get_or s k 0 ≡ 0x3C → taking 0x3C 0x3C false 0 s ≡ Taken k
+  angle-taken : get_or s k 0 ≡ 0x3C → taking 0x3C 0x3C false 0 s ≡ Some k
   unfolding is_stop
   angle-taken f = angle-over ∙ at-stop 0x3C 0x3C s k h (λ (g : get_or s k 0 ≡ 0x5C). absurd (omega (arith, f, g))) (simp (eq-eqb _ _ f))
 
-  tick-more : (n : ℕ) → get_or s k 0 ≡ 0x3C → taking 0x60 0x60 false 0 s ≡ Taken n → (k + 1 ≤ n) × (taking 0x60 0x60 false 0 (drop (k + 1) s) ≡ Taken (n - (k + 1)))
+  tick-more : (n : ℕ) → get_or s k 0 ≡ 0x3C → taking 0x60 0x60 false 0 s ≡ Some n → (k + 1 ≤ n) × (taking 0x60 0x60 false 0 (drop (k + 1) s) ≡ Some (n - (k + 1)))
   unfolding is_stop
   tick-more n f g =
       taken_back 0x60 0x60 (k + 1) (drop (k + 1) s) n
       (sym (tick-over ∙ at_plain 0x60 0x60 s k h (λ (z : get_or s k 0 ≡ 0x5C). absurd (omega (arith, f, z))) (rw f refl)) ∙ g)
 
   -- a text that it is all of has no <
-  inside-unbracketed : (label : Bool) → inside_of label (take k s) ≡ Nothing
+  inside-unbracketed : (label : Bool) → inside_of label (take k s) ≡ None
   unfolding starts_with
   inside-unbracketed label = go (escaped_of 0x3C 0x3C (take k s)) refl
     where
-      go : (x : Part) → escaped_of 0x3C 0x3C (take k s) ≡ x → inside_of label (take k s) ≡ Nothing
-      go Refused f = inside-refused label (take k s) f
-      go (Taken m) f =
+      go : (x : Option ℕ) → escaped_of 0x3C 0x3C (take k s) ≡ x → inside_of label (take k s) ≡ None
+      go None f = inside-refused label (take k s) f
+      go (Some m) f =
           let z : length (take k s) ≡ 0 + m = taken_is _ _ (sym (angled (take k s) front) ∙ taken-from 0x3C 0x3C 0 (take k s) m f) in
           inside-open label (take k s) m [] f (sym (drop-end (take k s) m (omega arith))) (delimited-none (0x3C ∷ []) 0x3C 0x3E (0x3E ∷ []) [] refl)
 
 -- what is taken up to both is such a front
-front-taken : (s : List ℕ) (k : ℕ) → taking 0x60 0x3C false 0 s ≡ Taken k → taking 0x60 0x3C false 0 (take k s) ≡ Taken k
+front-taken : (s : List ℕ) (k : ℕ) → taking 0x60 0x3C false 0 s ≡ Some k → taking 0x60 0x3C false 0 (take k s) ≡ Some k
 front-taken s k e = taking-front 0x60 0x3C s false 0 k k (omega arith) e
 
 -- what stands behind a first backtick
-module _ (anonym : Bool) (s : List ℕ) (n : ℕ) (e : backticked_of anonym (0x60 ∷ s) ≡ Taken n) where
-  behind-tick : taking 0x60 0x60 false 0 s ≡ Taken n
+module _ (anonym : Bool) (s : List ℕ) (n : ℕ) (e : backticked_of anonym (0x60 ∷ s) ≡ Some n) where
+  behind-tick : taking 0x60 0x60 false 0 s ≡ Some n
   behind-tick =
       let z : 0 + n ≡ n = omega arith in
-      taken-from 0x60 0x60 0 s n (delimited-is (0x60 ∷ []) 0x60 0x60 (closing anonym) (0x60 ∷ s) n e).inner ∙ ap Taken z
+      taken-from 0x60 0x60 0 s n (delimited-is (0x60 ∷ []) 0x60 0x60 (closing anonym) (0x60 ∷ s) n e).inner ∙ ap Some z
 
 -- No < stands before the first unescaped backtick: there is no form.
-pub text2target-unbracketed : (anonym label : Bool) (s : List ℕ) (k : ℕ) → taking 0x60 0x3C false 0 s ≡ Taken k → k < length s → get_or s k 0 ≡ 0x60 → text2target_of anonym label (0x60 ∷ s) ≡ Nothing
+pub text2target-unbracketed : (anonym label : Bool) (s : List ℕ) (k : ℕ) → taking 0x60 0x3C false 0 s ≡ Some k → k < length s → get_or s k 0 ≡ 0x60 → text2target_of anonym label (0x60 ∷ s) ≡ None
 text2target-unbracketed anonym label s k e h f = form-empty anonym label (0x60 ∷ s) inside
   where
-    inside : (n : ℕ) → backticked_of anonym (0x60 ∷ s) ≡ Taken n → inside_of label (take n s) ≡ Nothing
+    inside : (n : ℕ) → backticked_of anonym (0x60 ∷ s) ≡ Some n → inside_of label (take n s) ≡ None
     inside n g =
         let z : n ≡ k = taken_is _ _ (sym (behind-tick anonym s n g) ∙ tick-taken s k (front-taken s k e) h f) in
         ap (λ (j : ℕ). inside_of label (take j s)) z ∙ inside-unbracketed s k (front-taken s k e) h label
@@ -397,11 +395,11 @@ starts-byte c s k h e = go (eqb (get_or s k 0) c) refl (ap (starts_with (c ∷ [
     go false f g = absurd (true≢false (sym g ∙ simp (f, starts_with)))
 
 -- a target in brackets that is all of a text, with its >, has no <
-target_free : (r : List ℕ) (k : ℕ) → escaped_of 0x3C 0x3E r ≡ Taken k → length r ≡ k + 1 → get_or r k 0 ≡ 0x3E → taking 0x3C 0x3C false 0 r ≡ Taken (k + 1)
+target_free : (r : List ℕ) (k : ℕ) → escaped_of 0x3C 0x3E r ≡ Some k → length r ≡ k + 1 → get_or r k 0 ≡ 0x3E → taking 0x3C 0x3C false 0 r ≡ Some (k + 1)
 unfolding is_stop
 target_free r k e h f =
     let z : 0 + k ≡ k = omega arith in
-    let a = taking-front 0x3C 0x3E r false 0 k k (omega arith) (taken-from 0x3C 0x3E 0 r k e ∙ ap Taken z) in
+    let a = taking-front 0x3C 0x3E r false 0 k k (omega arith) (taken-from 0x3C 0x3E 0 r k e ∙ ap Some z) in
     let l : 0 + length (take k r) ≡ k = omega (arith, length-take-le k r (omega arith)) in
     ap (taking 0x3C 0x3C false 0) (sym (take-append-drop k r))
     ∙ taking-over 0x3C 0x3C (take k r) (drop k r) false 0 k l (taking-fewer 0x3C 0x3E 0x3C 0x3C angle-first (take k r) false 0 k l a)
@@ -410,11 +408,11 @@ target_free r k e h f =
 
 -- Two < stand in a text t: at place m, and j bytes behind it.
 module _
-    (label : Bool) (t : List ℕ) (m j : ℕ) (e : taking 0x60 0x3C false 0 (take m t) ≡ Taken m) (h : m < length t) (f : get_or t m 0 ≡ 0x3C)
-    (e' : taking 0x60 0x3C false 0 (take j (drop (m + 1) t)) ≡ Taken j) (h' : j < length (drop (m + 1) t)) (f' : get_or (drop (m + 1) t) j 0 ≡ 0x3C)
+    (label : Bool) (t : List ℕ) (m j : ℕ) (e : taking 0x60 0x3C false 0 (take m t) ≡ Some m) (h : m < length t) (f : get_or t m 0 ≡ 0x3C)
+    (e' : taking 0x60 0x3C false 0 (take j (drop (m + 1) t)) ≡ Some j) (h' : j < length (drop (m + 1) t)) (f' : get_or (drop (m + 1) t) j 0 ≡ 0x3C)
   where
     -- the target would end before the second
-    not-all : (k : ℕ) → delimited_of (0x3C ∷ []) 0x3C 0x3E (0x3E ∷ []) (drop m t) ≡ Taken k → k + 2 ≡ length (drop m t) → ⊥
+    not-all : (k : ℕ) → delimited_of (0x3C ∷ []) 0x3C 0x3E (0x3E ∷ []) (drop m t) ≡ Some k → k + 2 ≡ length (drop m t) → ⊥
     not-all k g i =
         let d = delimited-is (0x3C ∷ []) 0x3C 0x3E (0x3E ∷ []) (drop m t) k g in
         let u : drop 1 (drop m t) ≡ drop (m + 1) t = drop-drop 1 m t in
@@ -423,31 +421,31 @@ module _
         let x = target_free (drop (m + 1) t) k (ap (escaped_of 0x3C 0x3E) (sym u) ∙ d.inner) l b in
         omega (arith, taken_is _ _ (sym x ∙ angle-taken (drop (m + 1) t) j e' h' f'))
 
-    inside-opened : inside_of label t ≡ Nothing
+    inside-opened : inside_of label t ≡ None
     inside-opened = text (escaped_of 0x3C 0x3C t) refl
       where
-        bracket : (n k : ℕ) → escaped_of 0x3C 0x3C t ≡ Taken n → n ≡ m → delimited_of (0x3C ∷ []) 0x3C 0x3E (0x3E ∷ []) (drop n t) ≡ Taken k → inside_of label t ≡ Nothing
+        bracket : (n k : ℕ) → escaped_of 0x3C 0x3C t ≡ Some n → n ≡ m → delimited_of (0x3C ∷ []) 0x3C 0x3E (0x3E ∷ []) (drop n t) ≡ Some k → inside_of label t ≡ None
         bracket n k g z i = inside-more label t n _ g refl k i (λ x. not-all k (ap (λ (y : ℕ). delimited_of (0x3C ∷ []) 0x3C 0x3E (0x3E ∷ []) (drop y t)) (sym z) ∙ i) (x ∙ ap (λ (y : ℕ). length (drop y t)) z))
 
-        opened : (n : ℕ) → escaped_of 0x3C 0x3C t ≡ Taken n → n ≡ m → (x : Part) → delimited_of (0x3C ∷ []) 0x3C 0x3E (0x3E ∷ []) (drop n t) ≡ x → inside_of label t ≡ Nothing
-        opened n g z (Taken k) i = bracket n k g z i
-        opened n g z Refused i = inside-open label t n _ g refl i
+        opened : (n : ℕ) → escaped_of 0x3C 0x3C t ≡ Some n → n ≡ m → (x : Option ℕ) → delimited_of (0x3C ∷ []) 0x3C 0x3E (0x3E ∷ []) (drop n t) ≡ x → inside_of label t ≡ None
+        opened n g z (Some k) i = bracket n k g z i
+        opened n g z None i = inside-open label t n _ g refl i
 
-        text : (x : Part) → escaped_of 0x3C 0x3C t ≡ x → inside_of label t ≡ Nothing
-        text Refused g = inside-refused label t g
-        text (Taken n) g =
+        text : (x : Option ℕ) → escaped_of 0x3C 0x3C t ≡ x → inside_of label t ≡ None
+        text None g = inside-refused label t g
+        text (Some n) g =
             let z : 0 + n ≡ m = taken_is _ _ (sym (taken-from 0x3C 0x3C 0 t n g) ∙ angle-taken t m e h f) in
             opened n g (omega arith) _ refl
 
 -- So there is no form where two < stand before the first unescaped backtick.
 module _
-    (s : List ℕ) (m j : ℕ) (e : taking 0x60 0x3C false 0 s ≡ Taken m) (h : m < length s) (f : get_or s m 0 ≡ 0x3C)
-    (e' : taking 0x60 0x3C false 0 (drop (m + 1) s) ≡ Taken j) (h' : j < length (drop (m + 1) s)) (f' : get_or (drop (m + 1) s) j 0 ≡ 0x3C)
+    (s : List ℕ) (m j : ℕ) (e : taking 0x60 0x3C false 0 s ≡ Some m) (h : m < length s) (f : get_or s m 0 ≡ 0x3C)
+    (e' : taking 0x60 0x3C false 0 (drop (m + 1) s) ≡ Some j) (h' : j < length (drop (m + 1) s)) (f' : get_or (drop (m + 1) s) j 0 ≡ 0x3C)
   where
-    pub text2target-opened : (anonym label : Bool) → text2target_of anonym label (0x60 ∷ s) ≡ Nothing
+    pub text2target-opened : (anonym label : Bool) → text2target_of anonym label (0x60 ∷ s) ≡ None
     text2target-opened anonym label = form-empty anonym label (0x60 ∷ s) inside
       where
-        inside : (n : ℕ) → backticked_of anonym (0x60 ∷ s) ≡ Taken n → inside_of label (take n s) ≡ Nothing
+        inside : (n : ℕ) → backticked_of anonym (0x60 ∷ s) ≡ Some n → inside_of label (take n s) ≡ None
         inside n g =
             let a = tick-more s m (front-taken s m e) h n f (behind-tick anonym s n g) in
             let b = tick-more (drop (m + 1) s) j (front-taken (drop (m + 1) s) j e') h' (n - (m + 1)) f' a.1 in

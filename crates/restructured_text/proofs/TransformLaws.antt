@@ -3,6 +3,7 @@
 -- that what is read is still the old text. What a transform gives is no longer than its text. Whether a destination is refused goes by its
 -- next bytes too, and bytes that are no backslash change nothing of it.
 -- Assumes nothing.
+use Rattle.std.proofs.Common.{Option, Some, None}
 use Prim.Native.Nat.{ℕ, zero, suc, ◌+◌, ◌-◌, ◌<◌, ◌≤◌}
 use mathlib.Core.Path.{◌≡◌, refl, sym, ap, subst, subst⁻¹, ◌∙◌}
 use mathlib.Core.List.{List, [], ◌∷◌, ◌++◌, append_assoc, append-nil}
@@ -15,14 +16,11 @@ use lib.Seq.{take-suc-set, drop-set-lt, drop-drop, length-take-le, take-append_s
 use borrow.Author.Tests.{eq-eqb, ne_eqb}
 use Rattle.rst_bytes.specs.Appending.{free}
 use Rattle.rst_bytes.specs.Escaped.{is_escapable, is_stop, taking}
-use Rattle.rst_bytes.specs.declared.Part.TheVariants.{Taken}
 use Rattle.rst_bytes.specs.Line.{is_multispace, bytes_from}
 use Rattle.rst_bytes.proofs.Lists.{part-from, drop-next, drop-two, drop-last, drop-end}
 use Rattle.rst_bytes.proofs.TestLaws.{picks_first, picks_second, by-test}
 use Rattle.rst_bytes.proofs.EscapedLaws.{refused-taken, taken_is, free-next, no_slash}
 use Rattle.rst_bytes.proofs.LineLaws.{bytes-within, bytes_count}
-use Rattle.restructured_text.specs.declared.transform.Transformed.{Transformed}
-use Rattle.restructured_text.specs.declared.transform.Transformed.TheVariants.{Text, Wrong}
 use Rattle.restructured_text.specs.Inner.{is_bare, is_refused}
 use Rattle.restructured_text.specs.Transform.{Given, whole, refused, onto, reading, gives, itself, only, unescaped_of, is_destination_escapable, unblank, kept_of, text_of, destination_of, transform_of, answer_of, bytes_of, over}
 
@@ -83,38 +81,39 @@ module _ (ok : ℕ → Bool) (pair plain : ℕ → List ℕ) where
     pub at_other : i < length s → (get_or s i 0 ≡ 0x5C → ⊥) → reading ok pair plain (drop i s) ≡ onto (plain (get_or s i 0)) (reading ok pair plain (drop (i + 1) s))
     at_other h e = rw (drop-next s i h) (other _ _ (ne_eqb _ _ e))
 
-    module _ (h : i + 1 < length s) (e : get_or s i 0 ≡ 0x5C) where
-      -- a backslash with a byte that it takes along
-      at-escape : ok (get_or s (i + 1) 0) ≡ true → reading ok pair plain (drop i s) ≡ onto (pair (get_or s (i + 1) 0)) (reading ok pair plain (drop (i + 2) s))
-      at-escape f = rw (drop-two s i h) (escape _ _ _ (eq-eqb _ _ e) f)
+    -- a backslash with the byte c behind it
+    module _ (c : ℕ) (h : i + 1 < length s) (e : get_or s i 0 ≡ 0x5C) (w : c ≡ get_or s (i + 1) 0) where
+      -- that it takes along
+      at-escape : ok c ≡ true → reading ok pair plain (drop i s) ≡ onto (pair c) (reading ok pair plain (drop (i + 2) s))
+      at-escape = rw w (λ f. rw (drop-two s i h) (escape _ _ _ (eq-eqb _ _ e) f))
 
-      -- a backslash with another byte
-      pub at-wrong : ok (get_or s (i + 1) 0) ≡ false → reading ok pair plain (drop i s) ≡ refused []
-      at-wrong f = rw (drop-two s i h) (wrong _ _ _ (eq-eqb _ _ e) f)
+      -- or not
+      pub at-wrong : ok c ≡ false → reading ok pair plain (drop i s) ≡ refused []
+      at-wrong = rw w (λ f. rw (drop-two s i h) (wrong _ _ _ (eq-eqb _ _ e) f))
 
--- What unescaping reads, by the code's tests.
-module _ (keep : Bool) (s : List ℕ) (i : ℕ) (h : i + 1 < length s) (e : get_or s i 0 ≡ 0x5C) (f : is_escapable (get_or s (i + 1) 0) ≡ true) where
-  -- an escape that stands for its byte
-  pub at_byte : gives keep (get_or s (i + 1) 0) ≡ true → unescaped_of keep (drop i s) ≡ onto (get_or s (i + 1) 0 ∷ []) (unescaped_of keep (drop (i + 2) s))
+-- What unescaping reads, by the code's tests: an escape of c.
+module _ (keep : Bool) (s : List ℕ) (i c : ℕ) (h : i + 1 < length s) (e : get_or s i 0 ≡ 0x5C) (w : c ≡ get_or s (i + 1) 0) (f : is_escapable c ≡ true) where
+  -- that stands for its byte
+  pub at_byte : gives keep c ≡ true → unescaped_of keep (drop i s) ≡ onto (c ∷ []) (unescaped_of keep (drop (i + 2) s))
   at_byte g =
-      at-escape is_escapable (λ c. only (gives keep c) c) itself s i h e f
-      ∙ ap (λ (t : Bool). onto (only t (get_or s (i + 1) 0)) (unescaped_of keep (drop (i + 2) s))) g
+      at-escape is_escapable (λ c. only (gives keep c) c) itself s i c h e w f
+      ∙ ap (λ (t : Bool). onto (only t c) (unescaped_of keep (drop (i + 2) s))) g
 
-  -- an escape that stands for nothing
-  pub at-nothing : gives keep (get_or s (i + 1) 0) ≡ false → unescaped_of keep (drop i s) ≡ onto [] (unescaped_of keep (drop (i + 2) s))
+  -- or for nothing
+  pub at-nothing : gives keep c ≡ false → unescaped_of keep (drop i s) ≡ onto [] (unescaped_of keep (drop (i + 2) s))
   at-nothing g =
-      at-escape is_escapable (λ c. only (gives keep c) c) itself s i h e f
-      ∙ ap (λ (t : Bool). onto (only t (get_or s (i + 1) 0)) (unescaped_of keep (drop (i + 2) s))) g
+      at-escape is_escapable (λ c. only (gives keep c) c) itself s i c h e w f
+      ∙ ap (λ (t : Bool). onto (only t c) (unescaped_of keep (drop (i + 2) s))) g
 
 -- What dropping whitespace reads, by the code's tests.
 module _ (s : List ℕ) (i : ℕ) where
-  -- an escape
+  -- an escape of c
   pub at-two :
-      i + 1 < length s → get_or s i 0 ≡ 0x5C → is_destination_escapable (get_or s (i + 1) 0) ≡ true
-      → kept_of (drop i s) ≡ onto (get_or s i 0 ∷ get_or s (i + 1) 0 ∷ []) (kept_of (drop (i + 2) s))
-  at-two h e f =
-      at-escape is_destination_escapable (λ c. 0x5C ∷ c ∷ []) unblank s i h e f
-      ∙ ap (λ (b : ℕ). onto (b ∷ get_or s (i + 1) 0 ∷ []) (kept_of (drop (i + 2) s))) (sym e)
+      (c : ℕ) → i + 1 < length s → get_or s i 0 ≡ 0x5C → c ≡ get_or s (i + 1) 0 → is_destination_escapable c ≡ true
+      → kept_of (drop i s) ≡ onto (get_or s i 0 ∷ c ∷ []) (kept_of (drop (i + 2) s))
+  at-two c h e w f =
+      at-escape is_destination_escapable (λ c. 0x5C ∷ c ∷ []) unblank s i c h e w f
+      ∙ ap (λ (b : ℕ). onto (b ∷ c ∷ []) (kept_of (drop (i + 2) s))) (sym e)
 
   module _ (h : i < length s) (e : get_or s i 0 ≡ 0x5C → ⊥) where
     -- whitespace
@@ -240,12 +239,12 @@ module _ {F : List ℕ → Given} {d₀ d : List ℕ} {i n : ℕ} (st : At F d�
   all_said g e = st.said ∙ ap (λ (x : List ℕ). onto (take n d) (F x)) (sym (unread i st.room)) ∙ ap (onto (take n d)) e
 
   -- the rest is refused
-  pub ends-bad : F (drop i d) ≡ refused [] → (Wrong ≡ answer_of (F d₀)) × (d ≡ over (bytes_of (F d₀)) d₀)
+  pub ends-bad : F (drop i d) ≡ refused [] → (None ≡ answer_of (F d₀)) × (d ≡ over (bytes_of (F d₀)) d₀)
   ends-bad e = simp (all_said (refused []) e, append-nil) (refl, buffer (omega arith))
 
   -- nothing is left
-  pub ends-well : F (drop i d) ≡ whole [] → (Text n ≡ answer_of (F d₀)) × (d ≡ over (bytes_of (F d₀)) d₀)
-  ends-well e = simp (all_said (whole []) e, append-nil) (ap Text (sym (length-take-le n d (omega arith))), buffer (omega arith))
+  pub ends-well : F (drop i d) ≡ whole [] → (Some n ≡ answer_of (F d₀)) × (d ≡ over (bytes_of (F d₀)) d₀)
+  ends-well e = simp (all_said (whole []) e, append-nil) (ap Some (sym (length-take-le n d (omega arith))), buffer (omega arith))
 
 -- What a transform gives is no longer than its text: for each byte that it reads it gives at most one.
 module _ (ok : ℕ → Bool) (pair plain : ℕ → List ℕ) (one : (b : ℕ) → length (plain b) ≤ 1) (two : (c : ℕ) → length (pair c) ≤ 2) where
@@ -322,32 +321,32 @@ module _ (s : List ℕ) where
   destination-refused l e = ap (λ (g : Given). elim g [ whole x ↦ unescaped_of true x | refused x ↦ refused x ]) e
 
 -- an answer tells how long a text is
-pub text-text : (m n : ℕ) → Text m ≡ Text n → m ≡ n
+pub text-text : (m n : ℕ) → Some m ≡ Some n → m ≡ n
 text-text m n e = cc
 
 -- and is that of a whole text, or not
-pub text-wrong : (n : ℕ) → Text n ≡ Wrong → ⊥
+pub text-wrong : (n : ℕ) → Some n ≡ None → ⊥
 text-wrong n e = let z : ◌≡◌ {A = ℕ} 0 1 = cc in omega arith
 
 -- what is answered, and that the part so long is what was written
-pub answer-part : (g : Given) (d₀ d : List ℕ) (n : ℕ) → Text n ≡ answer_of g → d ≡ over (bytes_of g) d₀ → (g ≡ whole (take n d)) × (n ≤ length d)
+pub answer-part : (g : Given) (d₀ d : List ℕ) (n : ℕ) → Some n ≡ answer_of g → d ≡ over (bytes_of g) d₀ → (g ≡ whole (take n d)) × (n ≤ length d)
 answer-part (whole l) d₀ d n e f =
     let z : n ≡ length l = text-text n (length l) e in
     rw (f, z) (ap whole (sym (over-front l d₀)), omega (arith, length-append l (drop (length l) d₀)))
 answer-part (refused l) d₀ d n e f = absurd (text-wrong n e)
 
 -- or what is refused
-pub answer-refused : (g : Given) → Wrong ≡ answer_of g → g ≡ refused (bytes_of g)
+pub answer-refused : (g : Given) → None ≡ answer_of g → g ≡ refused (bytes_of g)
 answer-refused (whole l) e = absurd (text-wrong (length l) (sym e))
 answer-refused (refused l) e = refl
 
 -- what dropping whitespace wrote stands within the text
-pub kept-within : (s d : List ℕ) (n : ℕ) → Text n ≡ answer_of (kept_of s) → d ≡ over (bytes_of (kept_of s)) s → n ≤ length d
+pub kept-within : (s d : List ℕ) (n : ℕ) → Some n ≡ answer_of (kept_of s) → d ≡ over (bytes_of (kept_of s)) s → n ≤ length d
 kept-within s d n e f = (answer-part (kept_of s) s d n e f).1
 
 -- the part is unescaped
 pub destination-part :
-    (s d x : List ℕ) (n : ℕ) (r : Transformed) → Text n ≡ answer_of (kept_of s) → d ≡ over (bytes_of (kept_of s)) s
+    (s d x : List ℕ) (n : ℕ) (r : Option ℕ) → Some n ≡ answer_of (kept_of s) → d ≡ over (bytes_of (kept_of s)) s
     → r ≡ answer_of (unescaped_of true (take n d)) → x ≡ over (bytes_of (unescaped_of true (take n d))) (take n d)
     → (r ≡ answer_of (destination_of s)) × (x ++ drop n d ≡ over (bytes_of (destination_of s)) (over (bytes_of (kept_of s)) s))
 destination-part s d x n r e f a b =
@@ -356,14 +355,14 @@ destination-part s d x n r e f a b =
 
 -- or whitespace could not be dropped
 pub destination-wrong :
-    (s d : List ℕ) → Wrong ≡ answer_of (kept_of s) → d ≡ over (bytes_of (kept_of s)) s → (Wrong ≡ answer_of (destination_of s))
+    (s d : List ℕ) → None ≡ answer_of (kept_of s) → d ≡ over (bytes_of (kept_of s)) s → (None ≡ answer_of (destination_of s))
     × (d ≡ over (bytes_of (destination_of s)) (over (bytes_of (kept_of s)) s))
 destination-wrong s d e f =
     let w : destination_of s ≡ refused (bytes_of (kept_of s)) = destination-refused s _ (answer-refused (kept_of s) e) in
     rw w (refl, f ∙ sym (over-again (bytes_of (kept_of s)) s))
 
 -- One of the two transforms, by the code's test: what it answered, and that what it gives stands at the front.
-module _ (t : Bool) (s d x : List ℕ) (r : Transformed) where
+module _ (t : Bool) (s d x : List ℕ) (r : Option ℕ) where
   pub transform-destination :
       t ≡ true → r ≡ answer_of (destination_of s) → x ≡ over (bytes_of (destination_of s)) d → (r ≡ answer_of (transform_of t s))
       × (take (length (bytes_of (transform_of t s))) x ≡ bytes_of (transform_of t s))
@@ -435,58 +434,62 @@ kept-front (suc i) (b ∷ l) f =
     let w = free-next 0x5C 0x5C b (take i l) f in
     kept_byte b l (no_slash b w.0) ∙ kept-front i l w.1
 
--- The same at a position of a text, by the code's tests.
-module _ (s : List ℕ) (i : ℕ) where
-  -- nothing is left
-  pub kept-end : length s ≤ i → is_refused (kept_of (drop i s)) ≡ false
-  unfolding is_refused
-  kept-end h = ap is_refused (at-end is_destination_escapable (λ c. 0x5C ∷ c ∷ []) unblank s i h)
+-- The same by the code's tests: nothing is left;
+pub front-none : (s : List ℕ) → length s < 1 → is_refused (kept_of s) ≡ false
+unfolding is_refused reading
+front-none [] h = refl
+front-none (b ∷ s) h = absurd (omega arith)
 
-  -- a backslash, last
-  pub kept-last : i < length s → length s ≤ i + 1 → get_or s i 0 ≡ 0x5C → is_refused (kept_of (drop i s)) ≡ true
-  kept-last h l e = rw (drop-last s i h l) (kept-alone _ (eq-eqb _ _ e))
+-- a backslash, last;
+pub front-last : (s : List ℕ) → 1 ≤ length s → length s < 2 → get_or s 0 0 ≡ 0x5C → is_refused (kept_of s) ≡ true
+front-last [] h l e = absurd (omega arith)
+front-last (b ∷ []) h l e = kept-alone b (eq-eqb _ _ e)
+front-last (b ∷ c ∷ s) h l e = absurd (omega arith)
 
-  -- a byte that is no backslash
-  pub kept-other : i < length s → (get_or s i 0 ≡ 0x5C → ⊥) → is_refused (kept_of (drop i s)) ≡ is_refused (kept_of (drop (i + 1) s))
-  kept-other h e = rw (drop-next s i h) (kept_byte _ _ (ne_eqb _ _ e))
+-- a backslash with another byte than those that it takes along;
+pub front-wrong : (s : List ℕ) → 2 ≤ length s → get_or s 0 0 ≡ 0x5C → is_destination_escapable (get_or s 1 0) ≡ false → is_refused (kept_of s) ≡ true
+front-wrong [] h e f = absurd (omega arith)
+front-wrong (b ∷ []) h e f = absurd (omega arith)
+front-wrong (b ∷ c ∷ s) h e f = kept-wrong b c s (eq-eqb _ _ e) f
 
-  -- a backslash with a byte that it takes along, or with another one
-  module _ (h : i + 1 < length s) (e : get_or s i 0 ≡ 0x5C) where
-    pub kept-two : is_destination_escapable (get_or s (i + 1) 0) ≡ true → is_refused (kept_of (drop i s)) ≡ is_refused (kept_of (drop (i + 2) s))
-    kept-two f = rw (drop-two s i h) (kept_pair _ _ _ (eq-eqb _ _ e) f)
+-- with one of those;
+pub front-two :
+    (s : List ℕ) → 2 ≤ length s → get_or s 0 0 ≡ 0x5C → is_destination_escapable (get_or s 1 0) ≡ true
+    → is_refused (kept_of s) ≡ is_refused (kept_of (take (length s - 2) (drop 2 s)))
+front-two [] h e f = absurd (omega arith)
+front-two (b ∷ []) h e f = absurd (omega arith)
+front-two (b ∷ c ∷ s) h e f = rw (part-from (b ∷ c ∷ s) 2) (kept_pair b c s (eq-eqb _ _ e) f)
 
-    pub kept-bad : is_destination_escapable (get_or s (i + 1) 0) ≡ false → is_refused (kept_of (drop i s)) ≡ true
-    kept-bad f = rw (drop-two s i h) (kept-wrong _ _ _ (eq-eqb _ _ e) f)
+-- another byte;
+pub front-other :
+    (s : List ℕ) → 1 ≤ length s → (get_or s 0 0 ≡ 0x5C → ⊥) → is_refused (kept_of s) ≡ is_refused (kept_of (take (length s - 1) (drop 1 s)))
+front-other [] h e = absurd (omega arith)
+front-other (b ∷ s) h e = rw (part-from (b ∷ s) 1) (kept_byte b s (ne_eqb _ _ e))
 
-  -- r bytes that are no backslash
-  pub kept-passed :
-      (r : ℕ) → i ≤ length s → r ≤ length (take (length s - i) (drop i s)) → free 0x5C 0x5C (take r (take (length s - i) (drop i s))) ≡ true
-      → (i + r ≤ length s) × (is_refused (kept_of (drop i s)) ≡ is_refused (kept_of (drop (i + r) s)))
-  kept-passed r g h f =
-      let w : take (length s - i) (drop i s) ≡ drop i s = part-from s i in (
-        omega (arith, h, ap length w, length-drop i s),
-        kept-front r (drop i s) (subst (λ (v : List ℕ). free 0x5C 0x5C (take r v) ≡ true) w f)
-            ∙ ap (λ (v : List ℕ). is_refused (kept_of v)) (drop-drop r i s),
-      )
+-- and bytes that are no backslash, r of them
+pub front-free : (s : List ℕ) (r : ℕ) → free 0x5C 0x5C (take r s) ≡ true → is_refused (kept_of s) ≡ is_refused (kept_of (take (length s - r) (drop r s)))
+front-free s r f = kept-front r s f ∙ ap (λ (v : List ℕ). is_refused (kept_of v)) (sym (part-from s r))
+
+pub ruleset fronts = (front-none, front-last, front-wrong, front-two, front-other, front-free)
 
 -- behind a text that `escaped` takes as a whole, unescaping refuses if it does so there
-unescaped-over : (p q : ℕ) (keep : Bool) (l s : List ℕ) (n k : ℕ) → n + length l ≡ k → taking p q false n l ≡ Taken k → is_refused (unescaped_of keep (l ++ s)) ≡ is_refused (unescaped_of keep s)
+unescaped-over : (p q : ℕ) (keep : Bool) (l s : List ℕ) (n k : ℕ) → n + length l ≡ k → taking p q false n l ≡ Some k → is_refused (unescaped_of keep (l ++ s)) ≡ is_refused (unescaped_of keep s)
 unfolding taking
 unescaped-over p q keep [] s n k h e = refl
 unescaped-over p q keep (b ∷ []) s n k h e =
-    by-test (λ x. x ≡ Taken k → is_refused (unescaped_of keep (b ∷ s)) ≡ is_refused (unescaped_of keep s)) (eqb b 0x5C) _ _
+    by-test (λ x. x ≡ Some k → is_refused (unescaped_of keep (b ∷ s)) ≡ is_refused (unescaped_of keep s)) (eqb b 0x5C) _ _
     (λ f g. absurd (refused-taken k g))
     (λ f g. ap is_refused (other is_escapable (λ c. only (gives keep c) c) itself b s f) ∙ onto-refused (itself b) (unescaped_of keep s))
     e
 unescaped-over p q keep (b ∷ c ∷ l) s n k h e =
-    by-test (λ x. x ≡ Taken k → is_refused (unescaped_of keep (b ∷ c ∷ l ++ s)) ≡ is_refused (unescaped_of keep s)) (eqb b 0x5C) _ _
-    (λ f. by-test (λ x. x ≡ Taken k → is_refused (unescaped_of keep (b ∷ c ∷ l ++ s)) ≡ is_refused (unescaped_of keep s)) (is_escapable c) _ _
+    by-test (λ x. x ≡ Some k → is_refused (unescaped_of keep (b ∷ c ∷ l ++ s)) ≡ is_refused (unescaped_of keep s)) (eqb b 0x5C) _ _
+    (λ f. by-test (λ x. x ≡ Some k → is_refused (unescaped_of keep (b ∷ c ∷ l ++ s)) ≡ is_refused (unescaped_of keep s)) (is_escapable c) _ _
     (λ g i.
     ap is_refused (escape is_escapable (λ d. only (gives keep d) d) itself b c (l ++ s) f g)
     ∙ onto-refused (only (gives keep c) c) (unescaped_of keep (l ++ s))
     ∙ unescaped-over p q keep l s (n + 1 + 1) k (omega arith) i)
     (λ g i. absurd (refused-taken k i)))
-    (λ f. by-test (λ x. x ≡ Taken k → is_refused (unescaped_of keep (b ∷ c ∷ l ++ s)) ≡ is_refused (unescaped_of keep s)) (is_stop p q b) _ _
+    (λ f. by-test (λ x. x ≡ Some k → is_refused (unescaped_of keep (b ∷ c ∷ l ++ s)) ≡ is_refused (unescaped_of keep s)) (is_stop p q b) _ _
     (λ g i. absurd (omega (arith, taken_is n k i)))
     (λ g i.
     ap is_refused (other is_escapable (λ d. only (gives keep d) d) itself b (c ∷ l ++ s) f)
@@ -495,6 +498,6 @@ unescaped-over p q keep (b ∷ c ∷ l) s n k h e =
     e
 
 -- so does the text transform
-pub text-over : (p q : ℕ) (l s : List ℕ) → taking p q false 0 l ≡ Taken (length l) → is_refused (text_of (l ++ s)) ≡ is_refused (text_of s)
+pub text-over : (p q : ℕ) (l s : List ℕ) → taking p q false 0 l ≡ Some (length l) → is_refused (text_of (l ++ s)) ≡ is_refused (text_of s)
 unfolding text_of
 text-over p q l s e = unescaped-over p q false l s 0 (length l) (omega arith) e

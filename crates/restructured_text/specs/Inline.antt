@@ -1,16 +1,16 @@
 -- The inline forms with their strings: embedded links, anonymous and named, and references by label.
 -- Assumes nothing.
+use Rattle.std.specs.Prelude.{Option, Some, None}
+use Rattle.restructured_text.specs.Spans.{Spans}
 use Rattle.std.specs.Prelude.{ℕ, List, Bool, true, false}
-use Rattle.restructured_text.specs.declared.Spans.{Spans}
-use Rattle.restructured_text.specs.declared.Spans.TheVariants.{Parsed, Nothing}
 use Rattle.restructured_text.specs.Strings.{Link, none, linked}
 use Rattle.restructured_text.specs.Text2target.{text2target_of}
 use Rattle.restructured_text.specs.Label.{parse_text2label_of}
 
 -- the raw parts of s, transformed; the second one is a destination, or not
-abbrev pub finished_of : Bool → List ℕ → Spans → Link
-finished_of destination s (Parsed a b n) = linked destination s a b n
-finished_of destination s Nothing = none
+abbrev pub finished_of : Bool → List ℕ → Option Spans → Link
+finished_of destination s (Some (a, b, n)) = linked destination s a b n
+finished_of destination s None = none
 
 -- a text with its destination, anonymous or named
 abbrev pub embedded_of : Bool → List ℕ → Link

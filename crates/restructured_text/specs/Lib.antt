@@ -55,6 +55,7 @@ pub mod Transform
 pub mod Delimited
 pub mod Text2target
 pub mod Label
+pub mod Spans
 pub mod Strings
 pub mod Inline
 pub mod Block

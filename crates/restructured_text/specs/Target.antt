@@ -2,19 +2,13 @@
 -- space; a `__ ` block has name _. Then an alias (the rest begins with a simple label; what follows it is ignored) or a destination
 -- (it doesn't). An alias's target goes through the destination transform."
 -- Assumes nothing.
+use Rattle.std.specs.Prelude.{Option, Some, None}
+use Rattle.restructured_text.specs.Spans.{Spans}
+use Rattle.restructured_text.specs.declared.label.Label.{Label}
 use Rattle.std.specs.Prelude.{ℕ, ◌+◌, List, [], ◌∷◌, Bool, true, false, ◌||◌, length, drop}
 use Rattle.rst_bytes.specs.Line.{space0_of}
 use Rattle.rst_bytes.specs.Tag.{starts_with}
-use Rattle.rst_bytes.specs.declared.Part.TheVariants.{Taken, Refused}
 use Rattle.restructured_text.specs.declared.Span.{Span}
-use Rattle.restructured_text.specs.declared.Spans.{Spans}
-use Rattle.restructured_text.specs.declared.Spans.TheVariants.{Parsed, Nothing}
-use Rattle.restructured_text.specs.declared.label.SimpleLabel.{SimpleLabel}
-use Rattle.restructured_text.specs.declared.label.SimpleLabel.TheVariants.{Named, NoLabel}
-use Rattle.restructured_text.specs.declared.target.Name.{Name}
-use Rattle.restructured_text.specs.declared.target.Name.TheVariants.{Is, NoName}
-use Rattle.restructured_text.specs.declared.target.Rest.{Rest}
-use Rattle.restructured_text.specs.declared.target.Rest.TheVariants.{Target, NoTarget}
 use Rattle.restructured_text.specs.Delimited.{delimited_of}
 use Rattle.restructured_text.specs.Label.{simple_label_of}
 use Rattle.restructured_text.specs.Block.{BlockText, block, no_block, no-scratch, block_of}
@@ -22,64 +16,64 @@ use Rattle.restructured_text.specs.Transform.{whole, destination_of}
 use Rattle.restructured_text.specs.Strings.{Link, none, no_room, part, paired, linked}
 
 -- "_name: , the name by `escaped` up to .. a colon"
-unfoldable pub plain_name_of : List ℕ → Name
+unfoldable pub plain_name_of : List ℕ → Option (Span × ℕ)
 plain_name_of s =
     elim (delimited_of (0x5F ∷ []) 0x3A 0x3A (0x3A ∷ 0x20 ∷ []) s) [
-      | Taken n ↦ Is (record { start = 1; len = n }) (n + 3)
-      | Refused ↦ NoName
+      | Some n ↦ Some ((record { start = 1; len = n }), (n + 3))
+      | None ↦ None
     ]
 
 -- "_`name`: else _name: "
-unfoldable pub name_of : List ℕ → Name
+unfoldable pub name_of : List ℕ → Option (Span × ℕ)
 name_of s =
     elim (delimited_of (0x5F ∷ 0x60 ∷ []) 0x60 0x60 (0x60 ∷ 0x3A ∷ 0x20 ∷ []) s) [
-      | Taken n ↦ Is (record { start = 2; len = n }) (n + 5)
-      | Refused ↦ plain_name_of s
+      | Some n ↦ Some ((record { start = 2; len = n }), (n + 5))
+      | None ↦ plain_name_of s
     ]
 
 -- "the rest begins with a simple label; what follows it is ignored"
-abbrev pub label_in : SimpleLabel → Rest
-label_in (Named label n) = Target (record { start = label.start; len = label.len })
-label_in NoLabel = NoTarget
+abbrev pub label_in : Option (Label × ℕ) → Option Span
+label_in (Some (label, n)) = Some (record { start = label.start; len = label.len })
+label_in None = None
 
 -- where the target of an alias, or of a destination, stands in the rest
-unfoldable pub rest_of : Bool → List ℕ → Rest
+unfoldable pub rest_of : Bool → List ℕ → Option Span
 rest_of true s = label_in (simple_label_of s)
-rest_of false s = Target (record { start = 0; len = length s })
+rest_of false s = Some (record { start = 0; len = length s })
 
 -- "or a destination (it doesn't)": a destination that begins with a simple label is none
-abbrev pub is_named : SimpleLabel → Bool
-is_named (Named label n) = true
-is_named NoLabel = false
+abbrev pub is_named : Option (Label × ℕ) → Bool
+is_named (Some (label, n)) = true
+is_named None = false
 
 unfoldable pub excluded : Bool → List ℕ → Bool
 excluded true s = false
 excluded false s = is_named (simple_label_of s)
 
 -- the target of the rest that stands behind k bytes of s
-abbrev pub behind_name : List ℕ → Span → ℕ → Rest → Spans
-behind_name s name k (Target t) = Parsed name (record { start = k + t.start; len = t.len }) (length s)
-behind_name s name k NoTarget = Nothing
+abbrev pub behind_name : List ℕ → Span → ℕ → Option Span → Option Spans
+behind_name s name k (Some t) = Some (name, (record { start = k + t.start; len = t.len }), (length s))
+behind_name s name k None = None
 
 -- `rst_parse_label2target`: name and target in the text of a `.. ` block
-unfoldable pub parse_label2target_of : Bool → List ℕ → Spans
+unfoldable pub parse_label2target_of : Bool → List ℕ → Option Spans
 parse_label2target_of label s =
-    elim (name_of s) [ Is name k ↦ behind_name s name k (rest_of label (drop k s)) | NoName ↦ Nothing ]
+    elim (name_of s) [ Some (name, k) ↦ behind_name s name k (rest_of label (drop k s)) | None ↦ None ]
 
 -- a `.. ` block with this text, of n bytes
-abbrev pub named_in : Bool → List ℕ → ℕ → Spans → Link
-named_in label text n (Parsed name target m) =
+abbrev pub named_in : Bool → List ℕ → ℕ → Option Spans → Link
+named_in label text n (Some (name, target, m)) =
     elim (excluded label (part target text)) [ true ↦ none | false ↦ linked true text name target n ]
-named_in label text n Nothing = none
+named_in label text n None = none
 
 unfoldable pub named_of : Bool → List ℕ → ℕ → Link
 named_of label text n = named_in label text n (parse_label2target_of label text)
 
 -- "a `__ ` block has name _"
-abbrev pub anonymous_in : Bool → List ℕ → ℕ → Rest → Link
-anonymous_in label text n (Target t) =
+abbrev pub anonymous_in : Bool → List ℕ → ℕ → Option Span → Link
+anonymous_in label text n (Some t) =
     elim (excluded label (part t text)) [ true ↦ none | false ↦ paired (whole (0x5F ∷ [])) (destination_of (part t text)) n ]
-anonymous_in label text n NoTarget = none
+anonymous_in label text n None = none
 
 unfoldable pub anonymous_of : Bool → List ℕ → ℕ → Link
 anonymous_of label text n = anonymous_in label text n (rest_of label text)

@@ -2,12 +2,11 @@
 -- transform: first drop unescaped space, tab, CR, LF, refusing an escape of anything but space, `:`, backtick, `<`, `>`,
 -- backslash; then unescape, escaped space giving a space."
 -- Assumes nothing.
+use Rattle.std.specs.Prelude.{Option, Some, None}
 use Rattle.std.specs.Prelude.{ℕ, List, [], ◌∷◌, ◌++◌, Bool, true, false, eqb, length, drop}
 use Rattle.rst_bytes.specs.Tests.{one_of}
 use Rattle.rst_bytes.specs.Escaped.{is_escapable}
 use Rattle.rst_bytes.specs.Line.{is_multispace}
-use Rattle.restructured_text.specs.declared.transform.Transformed.{Transformed}
-use Rattle.restructured_text.specs.declared.transform.Transformed.TheVariants.{Text, Wrong}
 
 -- what a transform gives: the whole text; or, where it refuses, what it gave up to the backslash that refuses
 pub data Given : Type 0 where
@@ -73,9 +72,9 @@ transform_of true s = destination_of s
 transform_of false s = text_of s
 
 -- what is answered
-abbrev pub answer_of : Given → Transformed
-answer_of (whole l) = Text (length l)
-answer_of (refused l) = Wrong
+abbrev pub answer_of : Given → Option ℕ
+answer_of (whole l) = Some (length l)
+answer_of (refused l) = None
 
 -- what is written, in both cases
 abbrev pub bytes_of : Given → List ℕ

@@ -6,28 +6,26 @@ ghost use Rattle.restructured_text.specs.Inline.{embedded_of, text2dest_of, text
 use crate::label::rst_parse_text2label;
 use crate::scratch::{shared, transformed};
 use crate::text2target::rst_parse_text2target;
-use crate::{Spans, Strings};
+use crate::{ParseError, Spans};
 use rst_bytes::copy::copy;
 
 // A text with its destination, anonymous or named.
-fn embedded(s: &[u8], scratch: &mut [u8], anonym: bool) -> Strings
+#[tactic(auto, using(crate::proofs::Bounds::bounds))]
+fn embedded(s: &[u8], scratch: &mut [u8], anonym: bool) -> Result<Spans, ParseError>
     ensures strings { strings_of result scratch.new ≡ lent s.now scratch.old (embedded_of anonym s.now) }
     ensures ends { Ends result }
 {
     if scratch.len() < s.len() {
-        return Strings::NoRoom;
+        return Err(ParseError::NoRoom);
     }
-    match rst_parse_text2target(s, anonym, false) {
-        Spans::Parsed(text, target, n) => {
-            copy(&s[..n], scratch);
-            transformed(scratch, text, target, true, n)
-        }
-        Spans::Nothing => Strings::NotFound,
-    }
+    let (text, target, n) = rst_parse_text2target(s, anonym, false).ok_or(ParseError::NotFound)?;
+    copy(&s[..n], scratch);
+    transformed(scratch, text, target, true, n)
 }
 
 // An anonymous embedded link: its text and its destination.
-pub fn rst_text2dest(s: &[u8], scratch: &mut [u8]) -> Strings
+#[tactic(auto, unfolding(crate::specs::Inline::text2dest_of))]
+pub fn rst_text2dest(s: &[u8], scratch: &mut [u8]) -> Result<Spans, ParseError>
     ensures strings { strings_of result scratch.new ≡ lent s.now scratch.old (text2dest_of s.now) }
     ensures ends { Ends result }
 {
@@ -35,7 +33,8 @@ pub fn rst_text2dest(s: &[u8], scratch: &mut [u8]) -> Strings
 }
 
 // A named embedded link: its text and its destination.
-pub fn rst_text_label2dest(s: &[u8], scratch: &mut [u8]) -> Strings
+#[tactic(auto, unfolding(crate::specs::Inline::text_label2dest_of))]
+pub fn rst_text_label2dest(s: &[u8], scratch: &mut [u8]) -> Result<Spans, ParseError>
     ensures strings { strings_of result scratch.new ≡ lent s.now scratch.old (text_label2dest_of s.now) }
     ensures ends { Ends result }
 {
@@ -43,23 +42,19 @@ pub fn rst_text_label2dest(s: &[u8], scratch: &mut [u8]) -> Strings
 }
 
 // A reference: its text and its label.
-pub fn rst_text2label(s: &[u8], scratch: &mut [u8]) -> Strings
+#[tactic(auto, using(crate::proofs::Bounds::bounds), unfolding(crate::specs::Inline::text2label_of))]
+pub fn rst_text2label(s: &[u8], scratch: &mut [u8]) -> Result<Spans, ParseError>
     ensures strings { strings_of result scratch.new ≡ lent s.now scratch.old (text2label_of s.now) }
     ensures ends { Ends result }
 {
     if scratch.len() < s.len() {
-        return Strings::NoRoom;
+        return Err(ParseError::NoRoom);
     }
-    match rst_parse_text2label(s) {
-        Spans::Parsed(text, label, n) => {
-            copy(&s[..n], scratch);
-            let e = text.start + text.len;
-            if e <= label.start {
-                transformed(scratch, text, label, false, n)
-            } else {
-                shared(scratch, text, n)
-            }
-        }
-        Spans::Nothing => Strings::NotFound,
+    let (text, label, n) = rst_parse_text2label(s).ok_or(ParseError::NotFound)?;
+    copy(&s[..n], scratch);
+    if text.start + text.len <= label.start {
+        transformed(scratch, text, label, false, n)
+    } else {
+        shared(scratch, text, n)
     }
 }

@@ -14,6 +14,9 @@ pub mod target;
 pub mod text2target;
 pub mod transform;
 
+ghost use Rattle.std.specs.Prelude.{◌≡◌, ◌+◌, ◌≤◌, length};
+ghost use Rattle.restructured_text.specs.Strings.{part};
+
 // Where some bytes stand.
 #[derive(Clone, Copy)]
 pub struct Span {
@@ -21,18 +24,22 @@ pub struct Span {
     pub len: usize,
 }
 
-// Where two raw parts stand in a parser's input, and how many bytes it consumed; or that it refuses.
-#[derive(Clone, Copy)]
-pub enum Spans {
-    Parsed(Span, Span, usize),
-    Nothing,
+impl Span {
+    // The bytes that stand there in s.
+    pub fn of(self, s: &[u8]) -> &[u8]
+        requires { self.start + self.len ≤ length s.now }
+        ensures { result.now ≡ part self s.now }
+    {
+        &s[self.start..self.start + self.len]
+    }
 }
 
-// Where two strings stand in the scratch, and how many bytes of the input were consumed; or that there is no such form; or that
-// the scratch is shorter than the input.
-#[derive(Clone, Copy)]
-pub enum Strings {
-    Found(Span, Span, usize),
+// Two spans, and how many bytes were consumed: of a parser's input, where its two raw parts stand; of its scratch, where its two strings do.
+pub type Spans = (Span, Span, usize);
+
+// Why a parser that is lent a scratch gives nothing: there is no such form; or the scratch is shorter than the input.
+#[derive(Clone, Copy, PartialEq, Eq)]
+pub enum ParseError {
     NotFound,
     NoRoom,
 }

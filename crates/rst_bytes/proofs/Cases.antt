@@ -1,5 +1,6 @@
 -- Worked examples of the definitions, one list for each, checked by computation.
 -- Assumes nothing.
+use Rattle.std.proofs.Common.{Some, None}
 use mathlib.Core.Path.{◌≡◌, refl}
 use mathlib.Core.List.{[], ◌∷◌, ◌++◌, map}
 use mathlib.Core.Bool.{true, false}
@@ -10,9 +11,6 @@ use Rattle.rst_bytes.specs.Trim.{is_blank, blanks, trim_of}
 use Rattle.rst_bytes.specs.Escaped.{is_escapable, is_stop, taking, escaped_of}
 use Rattle.rst_bytes.specs.Line.{newline_of, line_ending_of, line_from, not_line_ending_of, is_space, is_multispace, bytes_from, space0_of, space1_of, multispace0_of}
 use Rattle.rst_bytes.specs.Tag.{starts_with}
-use Rattle.rst_bytes.specs.declared.Part.TheVariants.{Taken, Refused}
-use Rattle.rst_bytes.specs.declared.Character.TheVariants.{Starts, Nothing}
-use Rattle.rst_bytes.specs.declared.Outside.TheVariants.{At, Nowhere}
 
 -- U+0041, U+00E9, U+024F; C9 90 and C0 80 are none, nor is a second byte
 characters :
@@ -24,7 +22,7 @@ characters :
     ∷ (0xC0 ∷ 0x80 ∷ [])
     ∷ (0xA9 ∷ 0x41 ∷ [])
     ∷ [])
-    ≡ Starts 1 0x41 ∷ Starts 2 0xE9 ∷ Starts 2 0x24F ∷ Nothing ∷ Nothing ∷ Nothing ∷ []
+    ≡ Some (1, 0x41) ∷ Some (2, 0xE9) ∷ Some (2, 0x24F) ∷ None ∷ None ∷ None ∷ []
 unfolding char_of is_pair
 characters = refl
 
@@ -40,12 +38,12 @@ outside :
     ∷ (0xC3 ∷ 0xA9 ∷ 0xA9 ∷ [])
     ∷ (0xC0 ∷ 0x80 ∷ [])
     ∷ [])
-    ≡ Nowhere ∷ At 1 ∷ Nowhere ∷ At 1 ∷ At 1 ∷ At 2 ∷ At 0 ∷ []
+    ≡ None ∷ Some 1 ∷ None ∷ Some 1 ∷ Some 1 ∷ Some 2 ∷ Some 0 ∷ []
 unfolding outside_of run char_of is_pair
 outside = refl
 
 -- a document of the greatest length
-long : map outside_of (replicate 16384 0x61 ∷ (replicate 16383 0x61 ++ 0xC3 ∷ []) ∷ []) ≡ Nowhere ∷ At 16383 ∷ []
+long : map outside_of (replicate 16384 0x61 ∷ (replicate 16383 0x61 ++ 0xC3 ∷ []) ∷ []) ≡ None ∷ Some 16383 ∷ []
 unfolding outside_of run char_of is_pair
 long = refl
 
@@ -82,19 +80,19 @@ parts :
     ∷ (0x61 ∷ 0x5C ∷ 0x62 ∷ 0x60 ∷ [])
     ∷ (0x61 ∷ 0x5C ∷ [])
     ∷ [])
-    ≡ Taken 0 ∷ Taken 2 ∷ Taken 3 ∷ Refused ∷ Refused ∷ Refused ∷ []
+    ≡ Some 0 ∷ Some 2 ∷ Some 3 ∷ None ∷ None ∷ None ∷ []
 unfolding escaped_of taking is_stop is_escapable
 parts = refl
 
 -- LF, CR LF, another byte, nothing
-newlines : map newline_of ((0x0A ∷ []) ∷ (0x0D ∷ 0x0A ∷ []) ∷ (0x61 ∷ []) ∷ [] ∷ []) ≡ Taken 1 ∷ Refused ∷ Refused ∷ Refused ∷ []
+newlines : map newline_of ((0x0A ∷ []) ∷ (0x0D ∷ 0x0A ∷ []) ∷ (0x61 ∷ []) ∷ [] ∷ []) ≡ Some 1 ∷ None ∷ None ∷ None ∷ []
 unfolding newline_of
 newlines = refl
 
 -- LF, CR LF, CR alone, CR and another byte, another byte, nothing
 ends :
     map line_ending_of ((0x0A ∷ []) ∷ (0x0D ∷ 0x0A ∷ []) ∷ (0x0D ∷ []) ∷ (0x0D ∷ 0x0D ∷ []) ∷ (0x61 ∷ 0x0A ∷ []) ∷ [] ∷ [])
-    ≡ Taken 1 ∷ Taken 2 ∷ Refused ∷ Refused ∷ Refused ∷ Refused ∷ []
+    ≡ Some 1 ∷ Some 2 ∷ None ∷ None ∷ None ∷ None ∷ []
 unfolding line_ending_of
 ends = refl
 
@@ -107,7 +105,7 @@ lines :
     ∷ (0x61 ∷ 0x0D ∷ [])
     ∷ (0x61 ∷ 0x0D ∷ 0x62 ∷ 0x0A ∷ [])
     ∷ [])
-    ≡ Taken 1 ∷ Taken 2 ∷ Taken 3 ∷ Refused ∷ Refused ∷ []
+    ≡ Some 1 ∷ Some 2 ∷ Some 3 ∷ None ∷ None ∷ []
 unfolding line_from
 lines = refl
 
@@ -116,7 +114,7 @@ spaces : map space0_of ((0x20 ∷ 0x09 ∷ 0x0D ∷ []) ∷ (0x61 ∷ []) ∷ []
 unfolding bytes_from is_space
 spaces = refl
 
-some-spaces : map space1_of ((0x20 ∷ 0x09 ∷ 0x0D ∷ []) ∷ (0x61 ∷ []) ∷ []) ≡ Taken 2 ∷ Refused ∷ []
+some-spaces : map space1_of ((0x20 ∷ 0x09 ∷ 0x0D ∷ []) ∷ (0x61 ∷ []) ∷ []) ≡ Some 2 ∷ None ∷ []
 unfolding space1_of bytes_from is_space
 some-spaces = refl
 

@@ -1,25 +1,23 @@
 -- The laws of characters and of runs of them: the character at a position, lengths, one step of a run, bytes that are all below 80, and
 -- what a byte below 80 behind the text changes. Up to `char-low` they go by the two kinds of characters; the laws of `run` need only these.
 -- Assumes nothing.
-use Prim.Native.Nat.{ℕ, zero, suc, ◌+◌, ◌-◌, ◌<◌, ◌≤◌}
+use Rattle.std.proofs.Common.{Option, Some, None}
+use Prim.Native.Nat.{ℕ, zero, suc, ◌+◌, ◌-◌, ◌<◌, ◌≤◌, max}
 use native.Mathlib.Nat.{add-zero, add_assoc}
 use native.Mathlib.Omega.{arith}
 use mathlib.Core.Path.{◌≡◌, refl, sym, ap, ◌∙◌}
 use mathlib.Core.Logic.{◌⊎◌, inl, inr, ⊎_elim}
 use mathlib.Core.List.{List, [], ◌∷◌, ◌++◌}
-use mathlib.Core.Bool.{Bool, true, false, ◌&&◌, and-false, and-true, and-eq-true_iff}
+use mathlib.Core.Bool.{Bool, true, false, and-false, and-eq-true_iff}
 use lib.Dec.{ltb, leb, eqb}
 use lib.ListN.{length, get_or, drop, length-drop, length-append}
 use lib.Seq.{get_or-drop, drop-drop}
 use borrow.Author.Tests.{ltb-true, leb-true, eqb-true, lt-ltb, le-ltb, lt-leb, ne_eqb}
+use Rattle.std.specs.List.{fold}
+use Rattle.rst_bytes.proofs.Variants.{some-pair}
 use Rattle.rst_bytes.specs.Tests.{between}
 use Rattle.rst_bytes.specs.Domain.{is_pair, point_of, pair_of, char_of, run, any, outside_of}
-use Rattle.rst_bytes.specs.Inner.{is_ascii}
-use Rattle.rst_bytes.specs.declared.Character.{Character}
-use Rattle.rst_bytes.specs.declared.Character.TheVariants.{Starts, Nothing}
-use Rattle.rst_bytes.specs.declared.Outside.{Outside}
-use Rattle.rst_bytes.specs.declared.Outside.TheVariants.{At, Nowhere}
-use Rattle.rst_bytes.proofs.Lists.{drop-next, drop-two, drop-end, drop-last}
+use Rattle.rst_bytes.proofs.Lists.{drop-next, drop-end}
 use Rattle.rst_bytes.proofs.TestLaws.{or_cases, lt-or-le}
 
 -- the bytes of a pair
@@ -57,26 +55,13 @@ pair-bounds b c e =
 
 -- The character at a position, by the tests of the code.
 module _ (s : List ℕ) (i : ℕ) where
-  pub at-end : length s ≤ i → char_of (drop i s) ≡ Nothing
+  pub at-end : length s ≤ i → char_of (drop i s) ≡ None
   unfolding char_of
   at-end h = rw (drop-end s i h) refl
 
-  pub at_one : i < length s → get_or s i 0 < 0x80 → char_of (drop i s) ≡ Starts 1 (get_or s i 0)
+  pub at_one : i < length s → get_or s i 0 < 0x80 → char_of (drop i s) ≡ Some (1, (get_or s i 0))
   unfolding char_of
   at_one h l = rw (drop-next s i h) (simp (lt-ltb _ _ l, char_of))
-
-  pub at_last : i < length s → length s ≤ i + 1 → 0x80 ≤ get_or s i 0 → char_of (drop i s) ≡ Nothing
-  unfolding char_of
-  at_last h e l = rw (drop-last s i h e) (simp (le-ltb _ _ l, char_of))
-
-  module _ (h : i + 1 < length s) (l : 0x80 ≤ get_or s i 0) where
-    pub at_pair : is_pair (get_or s i 0) (get_or s (i + 1) 0) ≡ true → char_of (drop i s) ≡ Starts 2 (point_of (get_or s i 0) (get_or s (i + 1) 0))
-    unfolding char_of
-    at_pair e = rw (drop-two s i h) (simp (le-ltb _ _ l, e, char_of, pair_of))
-
-    pub at_none : is_pair (get_or s i 0) (get_or s (i + 1) 0) ≡ false → char_of (drop i s) ≡ Nothing
-    unfolding char_of
-    at_none e = rw (drop-two s i h) (simp (le-ltb _ _ l, e, char_of, pair_of))
 
 -- A character has one byte below 80, or two that are a pair.
 pub record One (s : List ℕ) (n p : ℕ) : Type 0 where
@@ -91,33 +76,33 @@ pub record Two (s : List ℕ) (n p : ℕ) : Type 0 where
   pub pair : is_pair (get_or s 0 0) (get_or s 1 0) ≡ true
   pub some : 1 < length s
 
-no-starts : {n p : ℕ} → Nothing ≡ Starts n p → ⊥
+no-starts : {n p : ℕ} → ◌≡◌ {A = Option (ℕ × ℕ)} None (Some (n, p)) → ⊥
 no-starts e = let z : ◌≡◌ {A = ℕ} 0 1 = cc in omega arith
 
 -- a character starts, or none does
-pub clash : (s : List ℕ) (n p : ℕ) → char_of s ≡ Nothing → char_of s ≡ Starts n p → ⊥
+pub clash : (s : List ℕ) (n p : ℕ) → char_of s ≡ None → char_of s ≡ Some (n, p) → ⊥
 clash s n p d e = no-starts (sym d ∙ e)
 
-pub char-cases : (s : List ℕ) (n p : ℕ) → char_of s ≡ Starts n p → One s n p ⊎ Two s n p
+pub char-cases : (s : List ℕ) (n p : ℕ) → char_of s ≡ Some (n, p) → One s n p ⊎ Two s n p
 unfolding char_of
 char-cases [] n p e = absurd (no-starts e)
 char-cases (b ∷ s) n p e = first (ltb b 0x80) refl
   where
-    second : (l : List ℕ) (x : Bool) → is_pair b (get_or l 0 0) ≡ x → pair_of b l ≡ Starts n p → Two (b ∷ l) n p
+    second : (l : List ℕ) (x : Bool) → is_pair b (get_or l 0 0) ≡ x → pair_of b l ≡ Some (n, p) → Two (b ∷ l) n p
     second [] x q u = absurd (no-starts u)
     second (c ∷ l) false q u = absurd (no-starts (simp (q, pair_of) at u))
     second (c ∷ l) true q u =
-        let v : Starts 2 (point_of b c) ≡ Starts n p = simp (q, pair_of) at u in
-        record { len = cc; point = cc; pair = q; some = omega arith }
+        let v : ◌≡◌ {A = Option (ℕ × ℕ)} (Some (2, (point_of b c))) (Some (n, p)) = simp (q, pair_of) at u in
+        let w = some-pair v in record { len = sym w.0; point = sym w.1; pair = q; some = omega arith }
 
     first : (x : Bool) → ltb b 0x80 ≡ x → One (b ∷ s) n p ⊎ Two (b ∷ s) n p
     first true q =
-        let v : Starts 1 b ≡ Starts n p = simp (q, char_of) at e in
-        inl (record { len = cc; point = cc; low = ltb-true b 0x80 q; some = omega arith })
+        let v : ◌≡◌ {A = Option (ℕ × ℕ)} (Some (1, b)) (Some (n, p)) = simp (q, char_of) at e in
+        let w = some-pair v in inl (record { len = sym w.0; point = sym w.1; low = ltb-true b 0x80 q; some = omega arith })
     first false q = inr (second s (is_pair b (get_or s 0 0)) refl (simp (q, char_of) at e))
 
 -- a character has a byte at least, and no more than there are
-pub char-within : (s : List ℕ) (n p : ℕ) → char_of s ≡ Starts n p → (0 < n) × (n ≤ length s)
+pub char-within : (s : List ℕ) (n p : ℕ) → char_of s ≡ Some (n, p) → (0 < n) × (n ≤ length s)
 char-within s n p e =
     ⊎_elim
     (λ (w : One s n p). (omega (arith, w.len), omega (arith, w.len, w.some)))
@@ -129,14 +114,14 @@ unfolding is_pair
 low-no-pair b c h = simp (lt-leb 0xC2 b h, ne_eqb b 0xC9 (λ e. omega arith))
 
 -- the second byte of a pair starts no character
-second_none : (s : List ℕ) → 0x80 ≤ get_or s 0 0 → get_or s 0 0 ≤ 0xBF → char_of s ≡ Nothing
+second_none : (s : List ℕ) → 0x80 ≤ get_or s 0 0 → get_or s 0 0 ≤ 0xBF → char_of s ≡ None
 unfolding char_of
 second_none [] l u = refl
 second_none (c ∷ []) l u = simp (le-ltb c 0x80 l, char_of)
 second_none (c ∷ d ∷ s) l u = simp (le-ltb c 0x80 l, char_of, low-no-pair c d (omega arith), pair_of)
 
 -- no character starts inside another
-pub char-inside : (s : List ℕ) (n p j : ℕ) → char_of s ≡ Starts n p → 0 < j → j < n → char_of (drop j s) ≡ Nothing
+pub char-inside : (s : List ℕ) (n p j : ℕ) → char_of s ≡ Some (n, p) → 0 < j → j < n → char_of (drop j s) ≡ None
 char-inside s n p j e h l =
     ⊎_elim
     (λ (w : One s n p). absurd (omega (arith, w.len)))
@@ -148,7 +133,7 @@ char-inside s n p j e h l =
     (char-cases s n p e)
 
 -- the same at a position
-pub inside-at : (s : List ℕ) (k n p j : ℕ) → char_of (drop k s) ≡ Starts n p → k < j → j < k + n → char_of (drop j s) ≡ Nothing
+pub inside-at : (s : List ℕ) (k n p j : ℕ) → char_of (drop k s) ≡ Some (n, p) → k < j → j < k + n → char_of (drop j s) ≡ None
 inside-at s k n p j e h l =
     let i : k + (j - k) ≡ j = omega arith in
     rw i at (ap char_of (sym (drop-drop (j - k) k s)) ∙ char-inside (drop k s) n p (j - k) e (omega arith) (omega arith))
@@ -159,7 +144,7 @@ module _ (c : ℕ) (l : c < 0x80) where
   unfolding is_pair
   low-no-second b = simp (lt-leb 0x80 c l, and-false)
 
-  low-char : (t : List ℕ) → char_of (c ∷ t) ≡ Starts 1 c
+  low-char : (t : List ℕ) → char_of (c ∷ t) ≡ Some (1, c)
   unfolding char_of
   low-char t = simp (lt-ltb c 0x80 l, char_of)
 
@@ -184,11 +169,11 @@ module _ (f : ℕ → Bool) where
       run-skip k (n + 1) s (omega arith) ∙ ap (λ (m : ℕ). run f 0 m (drop k s)) e
 
   -- a character that passes the test is taken
-  run-cons : (n b : ℕ) (s : List ℕ) (len p : ℕ) → char_of (b ∷ s) ≡ Starts len p → f p ≡ true → run f 0 n (b ∷ s) ≡ run f (len - 1) (n + 1) s
+  run-cons : (n b : ℕ) (s : List ℕ) (len p : ℕ) → char_of (b ∷ s) ≡ Some (len, p) → f p ≡ true → run f 0 n (b ∷ s) ≡ run f (len - 1) (n + 1) s
   unfolding run
   run-cons n b s len p e u = simp (e, u, run)
 
-  pub run-taken : (n : ℕ) (s : List ℕ) (len p : ℕ) → char_of s ≡ Starts len p → f p ≡ true → run f 0 n s ≡ run f 0 (n + len) (drop len s)
+  pub run-taken : (n : ℕ) (s : List ℕ) (len p : ℕ) → char_of s ≡ Some (len, p) → f p ≡ true → run f 0 n s ≡ run f 0 (n + len) (drop len s)
   run-taken n [] len p e u = absurd (omega (arith, char-within [] len p e))
   run-taken n (b ∷ s) len p e u =
       let w = char-within (b ∷ s) len p e in
@@ -198,20 +183,20 @@ module _ (f : ℕ → Bool) where
       ∙ ap (λ (i : ℕ). run f 0 (n + len) (drop i (b ∷ s))) (sym k)
 
   -- one that does not ends the run
-  pub run-ended : (n : ℕ) (s : List ℕ) (len p : ℕ) → char_of s ≡ Starts len p → f p ≡ false → run f 0 n s ≡ n
+  pub run-ended : (n : ℕ) (s : List ℕ) (len p : ℕ) → char_of s ≡ Some (len, p) → f p ≡ false → run f 0 n s ≡ n
   unfolding run
   run-ended n [] len p e u = refl
   run-ended n (b ∷ s) len p e u = simp (e, u, run)
 
   -- and so does a byte that starts none
-  pub run_none : (n : ℕ) (s : List ℕ) → char_of s ≡ Nothing → run f 0 n s ≡ n
+  pub run_none : (n : ℕ) (s : List ℕ) → char_of s ≡ None → run f 0 n s ≡ n
   unfolding run
   run_none n [] e = refl
   run_none n (b ∷ s) e = simp (e, run)
 
   -- The same at a position.
   module _ (s : List ℕ) (i : ℕ) where
-    pub at-taken : (len p : ℕ) → char_of (drop i s) ≡ Starts len p → f p ≡ true → run f 0 i (drop i s) ≡ run f 0 (i + len) (drop (i + len) s)
+    pub at-taken : (len p : ℕ) → char_of (drop i s) ≡ Some (len, p) → f p ≡ true → run f 0 i (drop i s) ≡ run f 0 (i + len) (drop (i + len) s)
     at-taken len p e u = run-taken i (drop i s) len p e u ∙ ap (run f 0 (i + len)) (drop-drop len i s)
 
   -- what is counted before is added
@@ -224,15 +209,15 @@ module _ (f : ℕ → Bool) where
       Rest : Type 0
       Rest = (k : ℕ) → run f k (m + (n + 1)) s ≡ m + run f k (n + 1) s
 
-      taken : Rest → (len p : ℕ) → char_of (b ∷ s) ≡ Starts len p → (u : Bool) → f p ≡ u → run f 0 (m + n) (b ∷ s) ≡ m + run f 0 n (b ∷ s)
+      taken : Rest → (len p : ℕ) → char_of (b ∷ s) ≡ Some (len, p) → (u : Bool) → f p ≡ u → run f 0 (m + n) (b ∷ s) ≡ m + run f 0 n (b ∷ s)
       taken rest len p e false u = run-ended (m + n) (b ∷ s) len p e u ∙ ap (◌+◌ m) (sym (run-ended n (b ∷ s) len p e u))
       taken rest len p e true u =
           run-cons (m + n) b s len p e u ∙ ap (λ (i : ℕ). run f (len - 1) i s) (add_assoc m n 1) ∙ rest (len - 1)
           ∙ ap (◌+◌ m) (sym (run-cons n b s len p e u))
 
-      go : Rest → (x : Character) → char_of (b ∷ s) ≡ x → run f 0 (m + n) (b ∷ s) ≡ m + run f 0 n (b ∷ s)
-      go rest Nothing e = run_none (m + n) (b ∷ s) e ∙ ap (◌+◌ m) (sym (run_none n (b ∷ s) e))
-      go rest (Starts len p) e = taken rest len p e (f p) refl
+      go : Rest → (x : Option (ℕ × ℕ)) → char_of (b ∷ s) ≡ x → run f 0 (m + n) (b ∷ s) ≡ m + run f 0 n (b ∷ s)
+      go rest None e = run_none (m + n) (b ∷ s) e ∙ ap (◌+◌ m) (sym (run_none n (b ∷ s) e))
+      go rest (Some (len, p)) e = taken rest len p e (f p) refl
 
   pub run-from : (n : ℕ) (s : List ℕ) → run f 0 n s ≡ n + run f 0 0 s
   run-from n s = ap (λ (i : ℕ). run f 0 i s) (sym (add-zero n)) ∙ shift n 0 0 s
@@ -263,16 +248,16 @@ module _ (f : ℕ → Bool) where
         Rest : Type 0
         Rest = (k : ℕ) → k ≤ length s → SeamOf (run f k (n + 1) s) (run f k (n + 1) (s ++ c ∷ t)) (n + 1) s t
 
-        taken : Rest → (len p : ℕ) → char_of (b ∷ s) ≡ Starts len p → (u : Bool) → f p ≡ u → SeamOf (run f 0 n (b ∷ s)) (run f 0 n ((b ∷ s) ++ c ∷ t)) n (b ∷ s) t
+        taken : Rest → (len p : ℕ) → char_of (b ∷ s) ≡ Some (len, p) → (u : Bool) → f p ≡ u → SeamOf (run f 0 n (b ∷ s)) (run f 0 n ((b ∷ s) ++ c ∷ t)) n (b ∷ s) t
         taken rest len p e false u = stays (run-ended n (b ∷ s) len p e u) (run-ended n ((b ∷ s) ++ c ∷ t) len p (char-low c l b s t ∙ e) u)
         taken rest len p e true u =
             let w = char-within (b ∷ s) len p e in
             rw (run-cons n b s len p e u, run-cons n b (s ++ c ∷ t) len p (char-low c l b s t ∙ e) u)
             (carry _ _ n b s t (rest (len - 1) (omega arith)))
 
-        go : Rest → (x : Character) → char_of (b ∷ s) ≡ x → SeamOf (run f 0 n (b ∷ s)) (run f 0 n ((b ∷ s) ++ c ∷ t)) n (b ∷ s) t
-        go rest Nothing e = stays (run_none n (b ∷ s) e) (run_none n ((b ∷ s) ++ c ∷ t) (char-low c l b s t ∙ e))
-        go rest (Starts len p) e = taken rest len p e (f p) refl
+        go : Rest → (x : Option (ℕ × ℕ)) → char_of (b ∷ s) ≡ x → SeamOf (run f 0 n (b ∷ s)) (run f 0 n ((b ∷ s) ++ c ∷ t)) n (b ∷ s) t
+        go rest None e = stays (run_none n (b ∷ s) e) (run_none n ((b ∷ s) ++ c ∷ t) (char-low c l b s t ∙ e))
+        go rest (Some (len, p)) e = taken rest len p e (f p) refl
 
     -- a test that the byte does not pass: the run stays as it is
     pub run-low : f c ≡ false → (s t : List ℕ) → run f 0 0 (s ++ c ∷ t) ≡ run f 0 0 s
@@ -287,90 +272,68 @@ module _ (f : ℕ → Bool) where
   run-within s = ⊎_elim (λ w. omega arith) (λ w. omega arith) (seam 10 (omega arith) 0 0 s [] (omega arith))
 
 -- a character at a position is within what there is
-pub char-at-within : (s : List ℕ) (i n p : ℕ) → i ≤ length s → char_of (drop i s) ≡ Starts n p → (0 < n) × (i + n ≤ length s)
+pub char-at-within : (s : List ℕ) (i n p : ℕ) → i ≤ length s → char_of (drop i s) ≡ Some (n, p) → (0 < n) × (i + n ≤ length s)
 char-at-within s i n p h e =
     let w = char-within (drop i s) n p e in
     (w.0, omega (arith, w.1, length-drop i s))
 
 -- the characters at the front end before the end, or at it
-outside-yes : (s : List ℕ) (n : ℕ) → run any 0 0 s ≡ n → n < length s → outside_of s ≡ At n
+outside-yes : (s : List ℕ) (n : ℕ) → run any 0 0 s ≡ n → n < length s → outside_of s ≡ Some n
 unfolding outside_of
 outside-yes s n e h = simp (e, lt-ltb n (length s) h, outside_of)
 
-outside-no : (s : List ℕ) (n : ℕ) → run any 0 0 s ≡ n → length s ≤ n → outside_of s ≡ Nowhere
+outside-no : (s : List ℕ) (n : ℕ) → run any 0 0 s ≡ n → length s ≤ n → outside_of s ≡ None
 unfolding outside_of
 outside-no s n e h = simp (e, le-ltb n (length s) h, outside_of)
 
 -- reading came to a byte that starts no character
-pub outside-at : (s : List ℕ) (i : ℕ) → i < length s → run any 0 0 s ≡ run any 0 i (drop i s) → char_of (drop i s) ≡ Nothing → outside_of s ≡ At i
+pub outside-at : (s : List ℕ) (i : ℕ) → i < length s → run any 0 0 s ≡ run any 0 i (drop i s) → char_of (drop i s) ≡ None → outside_of s ≡ Some i
 outside-at s i h e n = outside-yes s i (e ∙ run_none any i (drop i s) n) h
 
 -- reading came to the end
-pub outside-nowhere : (s : List ℕ) (i : ℕ) → length s ≤ i → run any 0 0 s ≡ run any 0 i (drop i s) → outside_of s ≡ Nowhere
+pub outside-nowhere : (s : List ℕ) (i : ℕ) → length s ≤ i → run any 0 0 s ≡ run any 0 i (drop i s) → outside_of s ≡ None
 outside-nowhere s i h e = outside-no s i (e ∙ run_none any i (drop i s) (at-end s i h)) h
 
 -- where every byte is below 80 each is a character, up to the end
-ascii_run : (n : ℕ) (s : List ℕ) → is_ascii s ≡ true → run any 0 n s ≡ n + length s
-unfolding run is_ascii
-ascii_run n [] e = sym (add-zero n)
-ascii_run n (b ∷ s) e =
-    let w = (and-eq-true_iff (ltb b 0x80) (is_ascii s)).0 e in
-    run-cons any n b s 1 b (at_one (b ∷ s) 0 (omega arith) (ltb-true b 0x80 w.0)) refl ∙ ascii_run (n + 1) s w.1 ∙ omega arith
+ascii_run : (n : ℕ) (s : List ℕ) → ((i : ℕ) → get_or s i 0 < 0x80) → run any 0 n s ≡ n + length s
+unfolding run
+ascii_run n [] f = sym (add-zero n)
+ascii_run n (b ∷ s) f =
+    run-cons any n b s 1 b (at_one (b ∷ s) 0 (omega arith) (f 0)) refl ∙ ascii_run (n + 1) s (λ i. f (suc i)) ∙ omega arith
 
-pub outside-ascii : (s : List ℕ) → is_ascii s ≡ true → outside_of s ≡ Nowhere
-outside-ascii s e = outside-no s (0 + length s) (ascii_run 0 s e) (omega arith)
+-- the greatest of the bytes and top is no less than any of them
+greatest : (s : List ℕ) (top : ℕ) → (top ≤ fold max top s) × ((i : ℕ) → get_or s i 0 ≤ fold max top s)
+greatest [] top = (omega arith, λ i. omega arith)
+greatest (b ∷ s) top = (omega (arith, (greatest s (max top b)).0), at (greatest s (max top b)))
+  where
+    at : (max top b ≤ fold max (max top b) s) × ((i : ℕ) → get_or s i 0 ≤ fold max (max top b) s) → (i : ℕ) → get_or (b ∷ s) i 0 ≤ fold max (max top b) s
+    at w zero = omega (arith, w.0)
+    at w (suc i) = w.1 i
 
--- of two numbers the greater alone decides whether both are below 80
-greater-first : (a b : ℕ) (x : Bool) → b ≤ a → (ltb a 0x80 && (ltb b 0x80 && x)) ≡ (ltb a 0x80 && x)
-greater-first a b x h =
-    ⊎_elim
-    (λ (l : a < 0x80). simp (lt-ltb b 0x80 (omega arith)))
-    (λ (l : 0x80 ≤ a). simp (le-ltb a 0x80 l))
-    (lt-or-le a 0x80)
-
-greater-second : (a b : ℕ) (x : Bool) → a < b → (ltb a 0x80 && (ltb b 0x80 && x)) ≡ (ltb b 0x80 && x)
-greater-second a b x h =
-    ⊎_elim
-    (λ (l : b < 0x80). simp (lt-ltb a 0x80 (omega arith)))
-    (λ (l : 0x80 ≤ b). simp (le-ltb b 0x80 l, and-false))
-    (lt-or-le b 0x80)
-
--- Every byte is below 80, read up to a position: the greatest so far and the bytes from there on are.
-module _ (s : List ℕ) (i top : ℕ) where
-  module _ (h : i < length s) where
-    pub ascii-same : get_or s i 0 ≤ top → (ltb top 0x80 && is_ascii (drop i s)) ≡ (ltb top 0x80 && is_ascii (drop (i + 1) s))
-    unfolding is_ascii
-    ascii-same l = rw (drop-next s i h) (greater-first top (get_or s i 0) (is_ascii (drop (i + 1) s)) l)
-
-    pub ascii_more : top < get_or s i 0 → (ltb top 0x80 && is_ascii (drop i s)) ≡ (ltb (get_or s i 0) 0x80 && is_ascii (drop (i + 1) s))
-    unfolding is_ascii
-    ascii_more l = rw (drop-next s i h) (greater-second top (get_or s i 0) (is_ascii (drop (i + 1) s)) l)
-
-  pub ascii-end : length s ≤ i → (ltb top 0x80 && is_ascii (drop i s)) ≡ ltb top 0x80
-  unfolding is_ascii
-  ascii-end h = rw (drop-end s i h) (and-true (ltb top 0x80))
+pub outside-ascii : (s : List ℕ) → fold max 0 s < 0x80 → outside_of s ≡ None
+outside-ascii s h = outside-no s (0 + length s) (ascii_run 0 s (λ i. omega (arith, (greatest s 0).1 i))) (omega arith)
 
 -- the place is within the document
-pub outside-within : (s : List ℕ) (n : ℕ) → outside_of s ≡ At n → n < length s
+pub outside-within : (s : List ℕ) (n : ℕ) → outside_of s ≡ Some n → n < length s
 outside-within s n e = ⊎_elim (λ l. inside (run any 0 0 s) refl l) (λ l. absurd (never (sym (outside-no s _ refl l) ∙ e))) (lt-or-le (run any 0 0 s) (length s))
   where
-    never : Nowhere ≡ At n → ⊥
+    never : None ≡ Some n → ⊥
     never q = let z : ◌≡◌ {A = ℕ} 0 1 = cc in omega arith
 
     inside : (x : ℕ) → run any 0 0 s ≡ x → x < length s → n < length s
     inside x q l =
-        let r : At x ≡ At n = sym (outside-yes s x q l) ∙ e in
+        let r : Some x ≡ Some n = sym (outside-yes s x q l) ∙ e in
         let i : x ≡ n = cc in
         omega arith
 
 -- the first place of two, the second counted from m on
-abbrev pub later : ℕ → Outside → Outside
-later m (At n) = At (m + n)
-later m Nowhere = Nowhere
+abbrev pub later : ℕ → Option ℕ → Option ℕ
+later m (Some n) = Some (m + n)
+later m None = None
 
-abbrev pub earlier : Outside → Outside → Outside
-earlier (At n) o = At n
-earlier Nowhere o = o
+abbrev pub earlier : Option ℕ → Option ℕ → Option ℕ
+earlier (Some n) o = Some n
+earlier None o = o
 
 -- a document, a line feed and a tail leave the domain where the document does, else where the tail does
 pub outside-lf : (s t : List ℕ) → outside_of (s ++ 10 ∷ t) ≡ earlier (outside_of s) (later (length s + 1) (outside_of t))

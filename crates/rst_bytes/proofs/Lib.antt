@@ -1,4 +1,5 @@
 -- `Cases` computes worked examples, `FreeLaws` are for the module `free`; the others are the laws that specs/Lib.antt lists.
+pub mod Variants
 pub mod Lists
 pub mod TestLaws
 pub mod DomainLaws

@@ -1,109 +1,72 @@
 -- The laws of `specs/Line.antt`. Each answer goes by the first bytes; the loops' definitions go on by one byte at a position of a
 -- text; how much is taken, and what is taken of a text behind which LF and more is put, follow by induction.
 -- Assumes nothing.
+use Rattle.std.proofs.Common.{Option, Some, None}
 use Prim.Native.Nat.{ℕ, zero, suc, ◌+◌, ◌-◌, ◌<◌, ◌≤◌}
 use mathlib.Core.Path.{◌≡◌, refl, sym, ap, ◌∙◌, subst, subst⁻¹}
 use mathlib.Core.List.{List, [], ◌∷◌, ◌++◌}
-use mathlib.Core.Bool.{Bool, true, false, true≢false, false≢true}
+use mathlib.Core.Bool.{Bool, true, false, not, true≢false, false≢true}
 use mathlib.Core.Logic.{◌⊎◌, inl, inr, ⊎_elim}
-use native.Mathlib.Nat.{not-suc-le-zero, suc-ne-zero, sub_self}
+use native.Mathlib.Nat.{not-suc-le-zero, suc-ne-zero, sub_self, add-zero}
 use native.Mathlib.Omega.{arith}
 use lib.Dec.{eqb}
-use lib.ListN.{length, get_or, drop, take}
+use lib.ListN.{length, get_or, drop, take, length-take, length-drop}
+use lib.Seq.{drop-drop}
+use denote.Param.Members.{Mut}
+use denote.Ref.{Bor}
+use Rattle.std.specs.Fn.{CalledAt}
+use Rattle.std.specs.Iterator.{Drains}
+use Rattle.std.specs.Iterator.Adapters.{take_while_source, take_while_done, take_while_callee, take_while_steps}
+use Rattle.std.specs.List.{prefix_len}
+use Rattle.std.specs.Slice.Iter.{iter_rest}
+use Rattle.std.specs.declared.iter.TakeWhile.{TakeWhile}
+use Rattle.std.specs.declared.slice.Iter.{Iter}
+use Rattle.std.proofs.iter.Yields.{fronts}
+use Rattle.std.proofs.lemmas.Iterator.{YieldsList-from_slice}
+use Rattle.std.proofs.lemmas.Iterator.Consumers.{count_from_yields_List}
+use Rattle.std.proofs.lemmas.Iterator.Search.{YieldsList-from_take_while}
+use Rattle.std.proofs.lemmas.List.Folds.{length-prefix_len}
 use borrow.Author.Tests.{eq-eqb, ne_eqb, eqb-true, eqb-false}
-use Rattle.rst_bytes.specs.declared.Part.{Part}
-use Rattle.rst_bytes.specs.declared.Part.TheVariants.{Taken, Refused}
 use Rattle.rst_bytes.specs.Line.{starts_lf, newline_of, line_ending_of, line_from, not_line_ending_of, is_space, is_multispace, bytes_from, space0_of, space1_of, multispace0_of}
 use Rattle.rst_bytes.specs.Escaped.{is_stop}
 use Rattle.rst_bytes.specs.Appending.{free, ends_in_cr, starts_space, Body}
-use Rattle.rst_bytes.proofs.Lists.{drop-next, drop-two, drop-last, drop-end}
+use Rattle.rst_bytes.proofs.Lists.{drop-next, drop-end, part-from}
 use Rattle.rst_bytes.proofs.EscapedLaws.{free-next}
 use Rattle.rst_bytes.proofs.TestLaws.{by-test, by-test₂, or_cases, neither}
 
 -- The two line endings.
 module _ (b : ℕ) (l : List ℕ) where
-  ends-lf : eqb b 10 ≡ true → line_ending_of (b ∷ l) ≡ Taken 1
+  ends-lf : eqb b 10 ≡ true → line_ending_of (b ∷ l) ≡ Some 1
   unfolding line_ending_of
   ends-lf e = simp (e, line_ending_of)
 
-  ends-crlf : eqb b 10 ≡ false → eqb b 13 ≡ true → starts_lf l ≡ true → line_ending_of (b ∷ l) ≡ Taken 2
+  ends-crlf : eqb b 10 ≡ false → eqb b 13 ≡ true → starts_lf l ≡ true → line_ending_of (b ∷ l) ≡ Some 2
   unfolding line_ending_of
   ends-crlf e f g = simp (e, f, g, line_ending_of)
 
--- `newline_of` and `line_ending_of` by the first bytes, by the code's tests.
+-- `line_ending_of` by the first bytes.
 
 -- no byte
-pub newline-none : (s : List ℕ) → length s ≡ 0 → newline_of s ≡ Refused
-unfolding newline_of
-newline-none [] h = refl
-newline-none (b ∷ l) h = absurd (suc-ne-zero _ h)
-
--- LF
-pub newline-first : (s : List ℕ) → 0 < length s → get_or s 0 0 ≡ 10 → newline_of s ≡ Taken 1
-unfolding newline_of
-newline-first [] h e = absurd (not-suc-le-zero h)
-newline-first (b ∷ l) h e = simp (eq-eqb b 10 e, newline_of)
-
--- another byte
-pub newline-other : (s : List ℕ) → 0 < length s → (get_or s 0 0 ≡ 10 → ⊥) → newline_of s ≡ Refused
-unfolding newline_of
-newline-other [] h e = absurd (not-suc-le-zero h)
-newline-other (b ∷ l) h e = simp (ne_eqb b 10 e, newline_of)
-
--- no byte
-pub ending-none : (s : List ℕ) → length s ≡ 0 → line_ending_of s ≡ Refused
+pub ending-none : (s : List ℕ) → length s ≡ 0 → line_ending_of s ≡ None
 unfolding line_ending_of
 ending-none [] h = refl
 ending-none (b ∷ l) h = absurd (suc-ne-zero _ h)
 
 -- LF
-pub ending-lf : (s : List ℕ) → 0 < length s → get_or s 0 0 ≡ 10 → line_ending_of s ≡ Taken 1
+pub ending-lf : (s : List ℕ) → 0 < length s → get_or s 0 0 ≡ 10 → line_ending_of s ≡ Some 1
 ending-lf [] h e = absurd (not-suc-le-zero h)
 ending-lf (b ∷ l) h e = ends-lf b l (eq-eqb b 10 e)
 
--- neither LF nor CR
-pub ending-other : (s : List ℕ) → 0 < length s → (get_or s 0 0 ≡ 10 → ⊥) → (get_or s 0 0 ≡ 13 → ⊥) → line_ending_of s ≡ Refused
-unfolding line_ending_of
-ending-other [] h e f = absurd (not-suc-le-zero h)
-ending-other (b ∷ l) h e f = simp (ne_eqb b 10 e, ne_eqb b 13 f, line_ending_of)
-
--- CR, last
-pub ending-alone : (s : List ℕ) → length s ≡ 1 → (get_or s 0 0 ≡ 10 → ⊥) → get_or s 0 0 ≡ 13 → line_ending_of s ≡ Refused
-unfolding line_ending_of
-ending-alone [] h e f = absurd (omega arith)
-ending-alone (b ∷ []) h e f = simp (ne_eqb b 10 e, eq-eqb b 13 f, line_ending_of)
-ending-alone (b ∷ c ∷ l) h e f = absurd (omega arith)
-
 -- CR LF
-pub ending-crlf : (s : List ℕ) → 1 < length s → (get_or s 0 0 ≡ 10 → ⊥) → get_or s 0 0 ≡ 13 → get_or s 1 0 ≡ 10 → line_ending_of s ≡ Taken 2
+pub ending-crlf : (s : List ℕ) → 1 < length s → (get_or s 0 0 ≡ 10 → ⊥) → get_or s 0 0 ≡ 13 → get_or s 1 0 ≡ 10 → line_ending_of s ≡ Some 2
 ending-crlf [] h e f g = absurd (omega arith)
 ending-crlf (b ∷ []) h e f g = absurd (omega arith)
 ending-crlf (b ∷ c ∷ l) h e f g = ends-crlf b (c ∷ l) (ne_eqb b 10 e) (eq-eqb b 13 f) (eq-eqb c 10 g)
 
--- CR with another byte after it
-pub ending-cr : (s : List ℕ) → 1 < length s → (get_or s 0 0 ≡ 10 → ⊥) → get_or s 0 0 ≡ 13 → (get_or s 1 0 ≡ 10 → ⊥) → line_ending_of s ≡ Refused
-unfolding line_ending_of
-ending-cr [] h e f g = absurd (omega arith)
-ending-cr (b ∷ []) h e f g = absurd (omega arith)
-ending-cr (b ∷ c ∷ l) h e f g = simp (ne_eqb b 10 e, eq-eqb b 13 f, ne_eqb c 10 g, line_ending_of)
-
--- One step of `line_from`, by the first bytes.
-module _ (n b : ℕ) (l : List ℕ) where
-  step-lf : eqb b 10 ≡ true → line_from n (b ∷ l) ≡ Taken n
-  unfolding line_from
-  step-lf e = simp (e, line_from)
-
-  step-crlf : eqb b 10 ≡ false → eqb b 13 ≡ true → starts_lf l ≡ true → line_from n (b ∷ l) ≡ Taken n
-  unfolding line_from
-  step-crlf e f g = simp (e, f, g, line_from)
-
-  step-cr : eqb b 10 ≡ false → eqb b 13 ≡ true → starts_lf l ≡ false → line_from n (b ∷ l) ≡ Refused
-  unfolding line_from
-  step-cr e f g = simp (e, f, g, line_from)
-
-  step-plain : eqb b 10 ≡ false → eqb b 13 ≡ false → line_from n (b ∷ l) ≡ line_from (n + 1) l
-  unfolding line_from
-  step-plain e f = simp (e, f, line_from)
+-- a byte of a line that is neither LF nor CR
+step-plain : (n b : ℕ) (l : List ℕ) → eqb b 10 ≡ false → eqb b 13 ≡ false → line_from n (b ∷ l) ≡ line_from (n + 1) l
+unfolding line_from
+step-plain n b l e f = simp (e, f, line_from)
 
 apart : (b : ℕ) → is_stop 10 13 b ≡ false → (eqb b 10 ≡ false) × (eqb b 13 ≡ false)
 unfolding is_stop
@@ -120,37 +83,84 @@ passed (suc i) (b ∷ rest) n m h e f =
     let v = apart b w.0 in
     step-plain n b rest v.0 v.1 ∙ passed i rest (n + 1) m (omega arith) (omega arith) w.1
 
-pub line-skipped : (s : List ℕ) (i : ℕ) → i ≤ length s → free 10 13 (take i s) ≡ true → line_from 0 s ≡ line_from i (drop i s)
+line-skipped : (s : List ℕ) (i : ℕ) → i ≤ length s → free 10 13 (take i s) ≡ true → line_from 0 s ≡ line_from i (drop i s)
 line-skipped s i h f = passed i s 0 i h (omega arith) f
 
--- The same at a position of a text, by the code's tests.
-module _ (s : List ℕ) (i : ℕ) where
-  -- nothing is left
-  pub line-end : length s ≤ i → line_from i (drop i s) ≡ Taken i
-  unfolding line_from
-  line-end h = rw (drop-end s i h) refl
+-- bytes are counted on from n
+pub bytes_count : (f : ℕ → Bool) (s : List ℕ) (n : ℕ) → bytes_from f n s ≡ n + bytes_from f 0 s
+unfolding bytes_from
+bytes_count f [] n = omega arith
+bytes_count f (b ∷ s) n =
+    by-test₂ (λ x y. x ≡ n + y) (f b) _ _ _ _
+    (λ e. omega (arith, bytes_count f s (n + 1), bytes_count f s (0 + 1)))
+    (λ e. omega arith)
 
-  -- LF
-  pub line-lf : i < length s → get_or s i 0 ≡ 10 → line_from i (drop i s) ≡ Taken i
-  line-lf h e = rw (drop-next s i h) (step-lf _ _ _ (eq-eqb _ _ e))
+-- no more bytes pass than there are
+bytes_le : (f : ℕ → Bool) (l : List ℕ) (n k : ℕ) → n + length l ≤ k → bytes_from f n l ≤ k
+unfolding bytes_from
+bytes_le f [] n k h = omega arith
+bytes_le f (b ∷ l) n k h = by-test (λ x. x ≤ k) (f b) _ _ (λ e. bytes_le f l (n + 1) k (omega arith)) (λ e. omega arith)
 
-  module _ (e : get_or s i 0 ≡ 10 → ⊥) where
-    -- neither LF nor CR
-    pub line_plain : i < length s → (get_or s i 0 ≡ 13 → ⊥) → line_from i (drop i s) ≡ line_from (i + 1) (drop (i + 1) s)
-    line_plain h f = rw (drop-next s i h) (step-plain _ _ _ (ne_eqb _ _ e) (ne_eqb _ _ f))
+pub bytes-within : (f : ℕ → Bool) (s : List ℕ) → bytes_from f 0 s ≤ length s
+bytes-within f s = bytes_le f s 0 (length s) (omega arith)
 
-    module _ (f : get_or s i 0 ≡ 13) where
-      -- CR, last
-      pub line-alone : i < length s → length s ≤ i + 1 → line_from i (drop i s) ≡ Refused
-      line-alone h l = rw (drop-last s i h l) (step-cr _ _ [] (ne_eqb _ _ e) (eq-eqb _ _ f) refl)
+-- neither LF nor CR
+abbrev pub inner : ℕ → Bool
+inner b = not (is_stop 10 13 b)
 
-      -- CR LF
-      pub line-crlf : i + 1 < length s → get_or s (i + 1) 0 ≡ 10 → line_from i (drop i s) ≡ Taken i
-      line-crlf h g = rw (drop-two s i h) (step-crlf _ _ (_ ∷ _) (ne_eqb _ _ e) (eq-eqb _ _ f) (eq-eqb _ _ g))
+-- the rest of the line is i bytes, if r says that a line ending stands behind them
+abbrev pub line_by : ℕ → Option ℕ → Option ℕ
+line_by i (Some n) = Some i
+line_by i None = None
 
-      -- CR with another byte after it
-      pub line-cr : i + 1 < length s → (get_or s (i + 1) 0 ≡ 10 → ⊥) → line_from i (drop i s) ≡ Refused
-      line-cr h g = rw (drop-two s i h) (step-cr _ _ (_ ∷ _) (ne_eqb _ _ e) (eq-eqb _ _ f) (ne_eqb _ _ g))
+-- the same by what stands behind them
+abbrev line_before : ℕ → List ℕ → Option ℕ
+line_before i [] = Some i
+line_before i (b ∷ l) = line_by i (line_ending_of (b ∷ l))
+
+-- LF or CR
+line-stop : (b : ℕ) (l : List ℕ) (i : ℕ) → is_stop 10 13 b ≡ true → line_from i (b ∷ l) ≡ line_by i (line_ending_of (b ∷ l))
+unfolding line_from line_ending_of is_stop
+line-stop b l i e = go (eqb b 10) refl (starts_lf l) refl
+  where
+    h : eqb b 10 ≡ false → eqb b 13 ≡ true
+    h f = simp f at e
+
+    go : (x : Bool) → eqb b 10 ≡ x → (y : Bool) → starts_lf l ≡ y → line_from i (b ∷ l) ≡ line_by i (line_ending_of (b ∷ l))
+    go true f y g = simp (f, line_from, line_ending_of)
+    go false f true g = simp (f, h f, g, line_from, line_ending_of)
+    go false f false g = simp (f, h f, g, line_from, line_ending_of)
+
+line-run : (l : List ℕ) (i : ℕ) → line_from i l ≡ line_before (i + bytes_from inner 0 l) (drop (bytes_from inner 0 l) l)
+unfolding line_from bytes_from
+line-run [] i = ap Some (sym (add-zero i))
+line-run (b ∷ l) i = go (is_stop 10 13 b) refl (line-run l (i + 1))
+  where
+    go : (x : Bool) → is_stop 10 13 b ≡ x → line_from (i + 1) l ≡ line_before (i + 1 + bytes_from inner 0 l) (drop (bytes_from inner 0 l) l) → line_from i (b ∷ l) ≡ line_before (i + bytes_from inner 0 (b ∷ l)) (drop (bytes_from inner 0 (b ∷ l)) (b ∷ l))
+    go true e ih = rw (e, bytes_from) (rw add-zero (line-stop b l i e))
+    go false e ih =
+        let v = apart b e in
+        let n : bytes_from inner (0 + 1) l ≡ suc (bytes_from inner 0 l) = omega (arith, bytes_count inner l (0 + 1)) in
+        let z : i + 1 + bytes_from inner 0 l ≡ i + suc (bytes_from inner 0 l) = omega arith in
+        step-plain i b l v.0 v.1 ∙ ih ∙ rw (e, bytes_from, n) (ap (λ (k : ℕ). line_before k (drop (bytes_from inner 0 l) l)) z)
+
+-- The rest of the line by the code: k bytes are passed, and behind them n more that are neither LF nor CR.
+module _ (s : List ℕ) (k n : ℕ) (h : k ≤ length s) (f : free 10 13 (take k s) ≡ true) (e : n ≡ bytes_from inner 0 (take (length s - k) (drop k s))) where
+  line-behind : not_line_ending_of s ≡ line_before (k + n) (drop (k + n) s)
+  line-behind =
+      let m : n ≡ bytes_from inner 0 (drop k s) = e ∙ ap (bytes_from inner 0) (part-from s k) in
+      line-skipped s k h f ∙ line-run (drop k s) k ∙ rw (← m) (ap (line_before (k + n)) (drop-drop n k s))
+
+  -- they are all
+  pub line-whole : k + n ≡ length s → not_line_ending_of s ≡ Some (k + n)
+  line-whole g = line-behind ∙ ap (line_before (k + n)) (drop-end s (k + n) (omega arith))
+
+  -- or the answer r is that of the line ending behind them
+  pub line-ends : (k + n ≡ length s → ⊥) → (r : Option ℕ) → r ≡ line_ending_of (take (length s - (k + n)) (drop (k + n) s)) → not_line_ending_of s ≡ line_by (k + n) r
+  line-ends g r w =
+      let le : n ≤ length (take (length s - k) (drop k s)) = rw e (bytes-within inner _) in
+      let d = drop-next s (k + n) (omega (arith, le, length-take (length s - k) (drop k s), length-drop k s)) in
+      line-behind ∙ ap (line_before (k + n)) d ∙ ap (λ (l : List ℕ). line_by (k + n) (line_ending_of l)) (sym d ∙ sym (part-from s (k + n))) ∙ ap (line_by (k + n)) (sym w)
 
 -- One step of `bytes_from` at a position of a text, by the test.
 module _ (f : ℕ → Bool) (s : List ℕ) (i : ℕ) where
@@ -172,19 +182,19 @@ module _ (f : ℕ → Bool) (s : List ℕ) (i : ℕ) where
 -- `space1_of` by `space0_of`.
 
 -- there is none
-pub space1-none : (s : List ℕ) → space0_of s ≡ 0 → space1_of s ≡ Refused
+pub space1-none : (s : List ℕ) → space0_of s ≡ 0 → space1_of s ≡ None
 unfolding space1_of
 space1-none s e = simp (eq-eqb _ _ e, space1_of)
 
 -- there is one
-pub space1-some : (s : List ℕ) → (space0_of s ≡ 0 → ⊥) → space1_of s ≡ Taken (space0_of s)
+pub space1-some : (s : List ℕ) → (space0_of s ≡ 0 → ⊥) → space1_of s ≡ Some (space0_of s)
 unfolding space1_of
 space1-some s e = simp (ne_eqb _ _ e, space1_of)
 
 -- What is taken, if anything is, is at least one byte and at most k bytes.
-abbrev SomeIn : ℕ → Part → Type 0
-SomeIn k (Taken n) = (0 < n) × (n ≤ k)
-SomeIn k Refused = Unit {0}
+abbrev SomeIn : ℕ → Option ℕ → Type 0
+SomeIn k (Some n) = (0 < n) × (n ≤ k)
+SomeIn k None = Unit {0}
 
 -- so `newline`
 newline-in : (s : List ℕ) → SomeIn (length s) (newline_of s)
@@ -193,11 +203,11 @@ newline-in [] = tt
 newline-in (b ∷ l) = by-test (SomeIn (suc (length l))) (eqb b 10) _ _ (λ e. (omega arith, omega arith)) (λ e. tt)
 
 -- no more is taken than there is
-pub newline-le : (s : List ℕ) (n : ℕ) → newline_of s ≡ Taken n → n ≤ length s
+pub newline-le : (s : List ℕ) (n : ℕ) → newline_of s ≡ Some n → n ≤ length s
 newline-le s n e = (subst (SomeIn (length s)) e (newline-in s)).1
 
 -- something is taken
-pub newline-pos : (s : List ℕ) (n : ℕ) → newline_of s ≡ Taken n → 0 < n
+pub newline-pos : (s : List ℕ) (n : ℕ) → newline_of s ≡ Some n → 0 < n
 newline-pos s n e = (subst (SomeIn (length s)) e (newline-in s)).0
 
 -- so `line_ending`
@@ -214,21 +224,12 @@ line-ending-in (b ∷ c ∷ l) =
     (λ f. tt))
 
 -- no more is taken than there is
-pub line-ending-le : (s : List ℕ) (n : ℕ) → line_ending_of s ≡ Taken n → n ≤ length s
+pub line-ending-le : (s : List ℕ) (n : ℕ) → line_ending_of s ≡ Some n → n ≤ length s
 line-ending-le s n e = (subst (SomeIn (length s)) e (line-ending-in s)).1
 
 -- something is taken
-pub line-ending-pos : (s : List ℕ) (n : ℕ) → line_ending_of s ≡ Taken n → 0 < n
+pub line-ending-pos : (s : List ℕ) (n : ℕ) → line_ending_of s ≡ Some n → 0 < n
 line-ending-pos s n e = (subst (SomeIn (length s)) e (line-ending-in s)).0
-
--- no more bytes pass than there are
-bytes_le : (f : ℕ → Bool) (l : List ℕ) (n k : ℕ) → n + length l ≤ k → bytes_from f n l ≤ k
-unfolding bytes_from
-bytes_le f [] n k h = omega arith
-bytes_le f (b ∷ l) n k h = by-test (λ x. x ≤ k) (f b) _ _ (λ e. bytes_le f l (n + 1) k (omega arith)) (λ e. omega arith)
-
-pub bytes-within : (f : ℕ → Bool) (s : List ℕ) → bytes_from f 0 s ≤ length s
-bytes-within f s = bytes_le f s 0 (length s) (omega arith)
 
 -- there are no more than there are bytes
 pub space0-le : (s : List ℕ) → space0_of s ≤ length s
@@ -247,26 +248,26 @@ space1-in s =
     (λ e. (omega (arith, eqb-false (space0_of s) 0 e), space0-le s))
 
 -- no more is taken than there is
-pub space1-le : (s : List ℕ) (n : ℕ) → space1_of s ≡ Taken n → n ≤ length s
+pub space1-le : (s : List ℕ) (n : ℕ) → space1_of s ≡ Some n → n ≤ length s
 space1-le s n e = (subst (SomeIn (length s)) e (space1-in s)).1
 
 -- something is taken
-pub space1-pos : (s : List ℕ) (n : ℕ) → space1_of s ≡ Taken n → 0 < n
+pub space1-pos : (s : List ℕ) (n : ℕ) → space1_of s ≡ Some n → 0 < n
 space1-pos s n e = (subst (SomeIn (length s)) e (space1-in s)).0
 
 -- m bytes passed of l, counted from n, are at most all, and end before a line ending if they are not all
 record Passed (n : ℕ) (l : List ℕ) (m : ℕ) : Type 0 where
   from : n ≤ m
   within : m ≤ n + length l
-  ended : m < n + length l → (line_ending_of (drop (m - n) l) ≡ Taken 1) ⊎ (line_ending_of (drop (m - n) l) ≡ Taken 2)
+  ended : m < n + length l → (line_ending_of (drop (m - n) l) ≡ Some 1) ⊎ (line_ending_of (drop (m - n) l) ≡ Some 2)
 
-abbrev PassedOf : ℕ → List ℕ → Part → Type 0
-PassedOf n l (Taken m) = Passed n l m
-PassedOf n l Refused = Unit {0}
+abbrev PassedOf : ℕ → List ℕ → Option ℕ → Type 0
+PassedOf n l (Some m) = Passed n l m
+PassedOf n l None = Unit {0}
 
 -- the same with the byte before
-passed-before : (n b : ℕ) (l : List ℕ) (r : Part) → PassedOf (n + 1) l r → PassedOf n (b ∷ l) r
-passed-before n b l (Taken m) w =
+passed-before : (n b : ℕ) (l : List ℕ) (r : Option ℕ) → PassedOf (n + 1) l r → PassedOf n (b ∷ l) r
+passed-before n b l (Some m) w =
     record {
       from = omega arith;
       within = omega arith;
@@ -274,7 +275,7 @@ passed-before n b l (Taken m) w =
           let e : m - n ≡ suc (m - (n + 1)) = omega arith in
           rw e (w.ended (omega arith));
     }
-passed-before n b l Refused w = tt
+passed-before n b l None w = tt
 
 -- `line_from` passes so many
 line-passed : (l : List ℕ) (n : ℕ) → PassedOf n l (line_from n l)
@@ -290,13 +291,13 @@ line-passed (b ∷ l) n =
     (λ f. passed-before n b l (line_from (n + 1) l) (line-passed l (n + 1))))
 
 -- no more is taken than there is
-pub not-line-ending-le : (s : List ℕ) (n : ℕ) → not_line_ending_of s ≡ Taken n → n ≤ length s
+pub not-line-ending-le : (s : List ℕ) (n : ℕ) → not_line_ending_of s ≡ Some n → n ≤ length s
 not-line-ending-le s n e =
     let w : Passed 0 s n = subst (PassedOf 0 s) e (line-passed s 0) in
     omega arith
 
 -- what it ends before is a line ending
-pub not-line-ending-end : (s : List ℕ) (n : ℕ) → not_line_ending_of s ≡ Taken n → n < length s → (line_ending_of (drop n s) ≡ Taken 1) ⊎ (line_ending_of (drop n s) ≡ Taken 2)
+pub not-line-ending-end : (s : List ℕ) (n : ℕ) → not_line_ending_of s ≡ Some n → n < length s → (line_ending_of (drop n s) ≡ Some 1) ⊎ (line_ending_of (drop n s) ≡ Some 2)
 not-line-ending-end s n e h =
     let w : Passed 0 s n = subst (PassedOf 0 s) e (line-passed s 0) in
     let z : n - 0 ≡ n = omega arith in
@@ -327,7 +328,7 @@ space0-lf s t = bytes-append is_space 10 t refl s 0
 -- and so, if there has to be one
 pub space1-lf : (s t : List ℕ) → space1_of (s ++ 10 ∷ t) ≡ space1_of s
 unfolding space1_of
-space1-lf s t = ap (λ (n : ℕ). elim (eqb n 0) [ true ↦ Refused | false ↦ Taken n ]) (space0-lf s t)
+space1-lf s t = ap (λ (n : ℕ). elim (eqb n 0) [ true ↦ None | false ↦ Some n ]) (space0-lf s t)
 
 -- LF at the front of a text that is not empty goes by its first byte
 pub newline-lf : (b : ℕ) (s t : List ℕ) → newline_of ((b ∷ s) ++ 10 ∷ t) ≡ newline_of (b ∷ s)
@@ -354,14 +355,25 @@ not-line-ending-lf s t h = line-append t s 0 h
 
 -- The spaces and tabs at the front of a text.
 
--- bytes are counted on from n
-pub bytes_count : (f : ℕ → Bool) (s : List ℕ) (n : ℕ) → bytes_from f n s ≡ n + bytes_from f 0 s
+-- the count in the library's words
+pub bytes-prefix_len : (f : ℕ → Bool) (s : List ℕ) → bytes_from f 0 s ≡ prefix_len f s
 unfolding bytes_from
-bytes_count f [] n = omega arith
-bytes_count f (b ∷ s) n =
-    by-test₂ (λ x y. x ≡ n + y) (f b) _ _ _ _
-    (λ e. omega (arith, bytes_count f s (n + 1), bytes_count f s (0 + 1)))
-    (λ e. omega arith)
+bytes-prefix_len f [] = refl
+bytes-prefix_len f (b ∷ s) = go (f b) refl (omega (arith, bytes_count f s (0 + 1), bytes-prefix_len f s))
+  where
+    go : (t : Bool) → f b ≡ t → bytes_from f (0 + 1) s ≡ 1 + prefix_len f s → bytes_from f 0 (b ∷ s) ≡ prefix_len f (b ∷ s)
+    go true e h = rw (e, bytes_from) h
+    go false e h = rw (e, bytes_from) refl
+
+-- what `s.iter().take_while(..).count()` answers, by the clauses of its calls
+pub bytes-take_while :
+    {F : Type 0} {w : TakeWhile (Iter ℕ) F} (g : Mut F (Bor (Bor ℕ) × Unit {0}) Bool) (f : ℕ → Bool) (s : List ℕ) {p : F} (n : ℕ)
+    → ((xs : List (Bor ℕ)) × Drains (take_while_steps fronts g) w xs × (n ≡ length xs))
+    → iter_rest (take_while_source w) ≡ s → take_while_callee w ≡ p → take_while_done w ≡ false
+    → ((x : Bor ℕ) (b : Bool) (q : F) → CalledAt g p x b q → (q ≡ p) × (b ≡ f x.now)) → n ≡ bytes_from f 0 s
+bytes-take_while {w = w} g f s n ran rest callee done passes =
+    count_from_yields_List w n ran (YieldsList-from_take_while g f (YieldsList-from_slice s rest) callee done passes)
+    ∙ length-prefix_len f s ∙ sym (bytes-prefix_len f s)
 
 -- one more than behind a space or a tab
 space0-next : (b : ℕ) (s : List ℕ) → is_space b ≡ true → space0_of (b ∷ s) ≡ suc (space0_of s)

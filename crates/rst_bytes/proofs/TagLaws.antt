@@ -1,44 +1,32 @@
--- The laws of `starts_with`: at a position of both lists, by the code's tests; how long a list is that begins with another; that what
+-- The laws of `starts_with`: what a `fold` over both lists answers; how long a list is that begins with another; that what
 -- a list lacks its beginnings lack; and that LF behind a list adds no beginning that has no LF.
 -- Assumes nothing.
-use Prim.Native.Nat.{ℕ, suc, ◌+◌, ◌<◌, ◌≤◌}
+use Prim.Native.Nat.{ℕ, suc, ◌<◌, ◌≤◌}
 use native.Mathlib.Omega.{arith}
 use mathlib.Core.Path.{◌≡◌, refl, sym, ap, ◌∙◌}
 use mathlib.Core.List.{List, [], ◌∷◌, ◌++◌}
-use mathlib.Core.Bool.{Bool, true, false, ◌&&◌, false≢true}
+use mathlib.Core.Bool.{Bool, true, false, ◌&&◌, false≢true, and-true, and-false}
 use lib.Dec.{eqb}
-use lib.ListN.{length, get_or, drop}
-use borrow.Author.Tests.{eq-eqb, ne_eqb, eqb-true}
+use lib.ListN.{length, drop, take}
+use borrow.Author.Tests.{eq-eqb, eqb-true}
+use Rattle.std.specs.List.{fold, zip}
 use Rattle.rst_bytes.specs.Tag.{starts_with}
 use Rattle.rst_bytes.specs.Line.{is_space}
 use Rattle.rst_bytes.specs.Escaped.{is_stop}
 use Rattle.rst_bytes.specs.Appending.{free, starts_space}
-use Rattle.rst_bytes.proofs.Lists.{drop-next, drop-end}
 use Rattle.rst_bytes.proofs.TestLaws.{by-test₂}
 use Rattle.rst_bytes.proofs.EscapedLaws.{free-next, free_more}
 
--- every list begins with the empty one
-starts-nil : (s : List ℕ) → starts_with [] s ≡ true
+-- of a list that is long enough, what a `fold` answers that looks at all pairs of its front and t
+pub starts-fold : (t s : List ℕ) (same : Bool) → length t ≤ length s → fold (λ a p. a && eqb p.0 p.1) same (zip (take (length t) s) t) ≡ (same && starts_with t s)
 unfolding starts_with
-starts-nil s = refl
-
--- At a position of both lists, by the code's tests.
-module _ (s t : List ℕ) (i : ℕ) where
-  -- nothing is left to compare
-  pub tag-done : length t ≤ i → starts_with (drop i t) (drop i s) ≡ true
-  tag-done h = rw (drop-end t i h) (starts-nil (drop i s))
-
-  module _ (h : i < length t) where
-    module _ (g : i < length s) where
-      -- another byte
-      pub tag-other : (get_or s i 0 ≡ get_or t i 0 → ⊥) → starts_with (drop i t) (drop i s) ≡ false
-      unfolding starts_with
-      tag-other e = rw (drop-next t i h, drop-next s i g) (simp (ne_eqb _ _ e, starts_with))
-
-      -- the same byte
-      pub tag-next : get_or s i 0 ≡ get_or t i 0 → starts_with (drop i t) (drop i s) ≡ starts_with (drop (i + 1) t) (drop (i + 1) s)
-      unfolding starts_with
-      tag-next e = rw (drop-next t i h, drop-next s i g) (simp (eq-eqb _ _ e, starts_with))
+starts-fold [] s same h = sym (and-true same)
+starts-fold (c ∷ t) [] same h = absurd (omega arith)
+starts-fold (c ∷ t) (b ∷ s) same h = go (eqb b c) refl (starts-fold t s (same && eqb b c) (omega arith))
+  where
+    go : (x : Bool) → eqb b c ≡ x → fold (λ a p. a && eqb p.0 p.1) (same && eqb b c) (zip (take (length t) s) t) ≡ (same && eqb b c && starts_with t s) → fold (λ a p. a && eqb p.0 p.1) same (zip (take (length (c ∷ t)) (b ∷ s)) (c ∷ t)) ≡ (same && starts_with (c ∷ t) (b ∷ s))
+    go true e f = f ∙ simp (e, starts_with, and-true)
+    go false e f = f ∙ simp (e, starts_with, and-false)
 
 -- a list is as long as what it begins with
 pub starts-le : (t s : List ℕ) → starts_with t s ≡ true → length t ≤ length s

@@ -2,7 +2,7 @@
 -- Assumes nothing.
 use mathlib.Core.Path.{◌≡◌, refl}
 use mathlib.Core.Logic.{◌⊎◌, inl, inr}
-use mathlib.Core.Bool.{Bool, true, false, ◌&&◌, ◌||◌, true≢false}
+use mathlib.Core.Bool.{Bool, true, false, ◌||◌, true≢false}
 use Prim.Native.Nat.{ℕ, ◌<◌, ◌≤◌}
 use lib.Dec.{ltb}
 use borrow.Author.Tests.{ltb-true, ltb-false}
@@ -35,15 +35,6 @@ or_cases false b e = inr e
 pub neither : (a b : Bool) → (a || b) ≡ false → (a ≡ false) × (b ≡ false)
 neither false b e = (refl, e)
 neither true b e = absurd (true≢false e)
-
--- with one that does not hold two do not both hold; with one that holds they do if the other does
-pub and-missed : (a b : Bool) → b ≡ false → (a && b) ≡ false
-and-missed true b e = e
-and-missed false b e = refl
-
-pub and_kept : (a b : Bool) → b ≡ true → (a && b) ≡ a
-and_kept true b e = e
-and_kept false b e = refl
 
 -- of two numbers the first is below the second, or not
 pub lt-or-le : (a b : ℕ) → (a < b) ⊎ (b ≤ a)

@@ -2,6 +2,7 @@
 -- text. For if only blank characters stood from an earlier place on, one of them would end there, or go past it; and no character
 -- goes past a place where another starts.
 -- Assumes nothing.
+use Rattle.std.proofs.Common.{Option, Some, None}
 use Prim.Native.Nat.{ℕ, zero, suc, ◌+◌, ◌-◌, ◌<◌, ◌≤◌}
 use native.Mathlib.Omega.{arith}
 use mathlib.Core.Path.{◌≡◌, refl, sym, ap, ◌∙◌}
@@ -14,25 +15,23 @@ use Rattle.rst_bytes.proofs.TestLaws.{lt-or-le}
 use borrow.Author.Tests.{eqb-true, eq-eqb}
 use Rattle.rst_bytes.specs.Domain.{char_of, is_pair, run}
 use Rattle.rst_bytes.specs.Trim.{is_blank, blank_of, blanks, trim_of}
-use Rattle.rst_bytes.specs.declared.Character.{Character}
-use Rattle.rst_bytes.specs.declared.Character.TheVariants.{Starts, Nothing}
 use Rattle.rst_bytes.proofs.DomainLaws.{One, Two, pair-bounds, clash, char-cases, char-within, inside-at, run-taken, run-ended, run_none, run-from}
 
 -- a blank character of n bytes stands at the front
 record Blank (s : List ℕ) (n : ℕ) : Type 0 where
   point : ℕ
-  char : char_of s ≡ Starts n point
+  char : char_of s ≡ Some (n, point)
   blank : is_blank point ≡ true
 
-pub blank-yes : (s : List ℕ) (n p : ℕ) → char_of s ≡ Starts n p → is_blank p ≡ true → blank_of s ≡ n
+pub blank-yes : (s : List ℕ) (n p : ℕ) → char_of s ≡ Some (n, p) → is_blank p ≡ true → blank_of s ≡ n
 unfolding blank_of
 blank-yes s n p e u = simp (e, u, blank_of)
 
-pub blank-no : (s : List ℕ) (n p : ℕ) → char_of s ≡ Starts n p → is_blank p ≡ false → blank_of s ≡ 0
+pub blank-no : (s : List ℕ) (n p : ℕ) → char_of s ≡ Some (n, p) → is_blank p ≡ false → blank_of s ≡ 0
 unfolding blank_of
 blank-no s n p e u = simp (e, u, blank_of)
 
-pub blank_none : (s : List ℕ) → char_of s ≡ Nothing → blank_of s ≡ 0
+pub blank_none : (s : List ℕ) → char_of s ≡ None → blank_of s ≡ 0
 unfolding blank_of
 blank_none s e = simp (e, blank_of)
 
@@ -40,15 +39,15 @@ blank_none s e = simp (e, blank_of)
 blank-is : (s : List ℕ) (n : ℕ) → blank_of s ≡ n → 0 < n → Blank s n
 blank-is s n e h = go (char_of s) refl
   where
-    taken : (len p : ℕ) → char_of s ≡ Starts len p → (u : Bool) → is_blank p ≡ u → Blank s n
+    taken : (len p : ℕ) → char_of s ≡ Some (len, p) → (u : Bool) → is_blank p ≡ u → Blank s n
     taken len p q false u = absurd (omega (arith, blank-no s len p q u, e))
     taken len p q true u =
         let l : len ≡ n = sym (blank-yes s len p q u) ∙ e in
-        record { point = p; char = q ∙ ap (λ (i : ℕ). Starts i p) l; blank = u }
+        record { point = p; char = q ∙ ap (λ (i : ℕ). Some (i, p)) l; blank = u }
 
-    go : (x : Character) → char_of s ≡ x → Blank s n
-    go Nothing q = absurd (omega (arith, blank_none s q, e))
-    go (Starts len p) q = taken len p q (is_blank p) refl
+    go : (x : Option (ℕ × ℕ)) → char_of s ≡ x → Blank s n
+    go None q = absurd (omega (arith, blank_none s q, e))
+    go (Some (len, p)) q = taken len p q (is_blank p) refl
 
 all-blank : (s : List ℕ) → blanks s ≡ true → run is_blank 0 0 s ≡ length s
 unfolding blanks
@@ -85,7 +84,7 @@ blanks-first s e h = go (char_of s) refl
     all : run is_blank 0 0 s ≡ length s
     all = all-blank s e
 
-    taken : (len p : ℕ) → char_of s ≡ Starts len p → (u : Bool) → is_blank p ≡ u → First s
+    taken : (len p : ℕ) → char_of s ≡ Some (len, p) → (u : Bool) → is_blank p ≡ u → First s
     taken len p q false u = absurd (omega (arith, all, run-ended is_blank 0 s len p q u))
     taken len p q true u =
         let r : run is_blank 0 0 s ≡ 0 + len + run is_blank 0 0 (drop len s) = run-taken is_blank 0 s len p q u ∙ run-from is_blank (0 + len) (drop len s) in
@@ -95,9 +94,9 @@ blanks-first s e h = go (char_of s) refl
           rest = blanks-is (drop len s) (omega (arith, r, all, length-drop len s));
         }
 
-    go : (x : Character) → char_of s ≡ x → First s
-    go Nothing q = absurd (omega (arith, all, run_none is_blank 0 s q))
-    go (Starts len p) q = taken len p q (is_blank p) refl
+    go : (x : Option (ℕ × ℕ)) → char_of s ≡ x → First s
+    go None q = absurd (omega (arith, all, run_none is_blank 0 s q))
+    go (Some (len, p)) q = taken len p q (is_blank p) refl
 
 -- the shortest front is the one that no shorter one undercuts
 trim-is : (s : List ℕ) (n : ℕ) → n ≤ length s → blanks (drop n s) ≡ true → ((k : ℕ) → k < n → blanks (drop k s) ≡ false) → trim_of s ≡ n
@@ -113,7 +112,7 @@ pub record Ends (s : List ℕ) (n : ℕ) : Type 0 where
   pub within : n ≤ length s
   pub after : blanks (drop n s) ≡ true
   pub no_one : 0 < n → blank_of (drop (n - 1) s) ≡ 1 → ⊥
-  pub no-two : 1 < n → blank_of (drop (n - 1 - 1) s) ≡ 2 → ⊥
+  pub no-two : 1 < n → blank_of (drop (n - 2) s) ≡ 2 → ⊥
 
 module _ (s : List ℕ) (n : ℕ) (w : Ends s n) where
   -- a blank character before n ends before n, where the claim for later places holds, or at n, or goes past it: no character
@@ -135,7 +134,7 @@ module _ (s : List ℕ) (n : ℕ) (w : Ends s n) where
           let i : k ≡ n - 1 = omega arith in
           w.no_one (omega arith) (rw i at is ∙ o))
           (λ (o : len ≡ 2).
-          let i : k ≡ n - 1 - 1 = omega arith in
+          let i : k ≡ n - 2 = omega arith in
           w.no-two (omega arith) (rw i at is ∙ o))
           size
 

@@ -38,7 +38,8 @@
 --                      tabs at the front begin with and lack; TagLaws starts-append, starts-shorter, starts-space
 --   at a place         by the code's tests: EscapedLaws at-end, at_plain, at-stop, at-alone, at_pair, at-wrong: one step of `taking`;
 --                      first-other, first-stop: where `escaped_of` begins; LineLaws bytes-end, bytes-pass, bytes-stop: one step of a run of bytes,
---                      which bytes_count says is the same counted from any number; space1-none, space1-some: there is no space or
+--                      which bytes_count says is the same counted from any number; bytes-prefix_len: the run in the library's words,
+--                      bytes-take_while: what `take_while` and `count` answer is that run; space1-none, space1-some: there is no space or
 --                      tab, or one; ending-lf, ending-crlf, ending-none: a line ending, or none; multispace-cases: which bytes are white space
 --   answers            EscapedLaws taken_is: equal answers take as many bytes; refused-taken: none is both taken and refused
 --   without two bytes  where a text has neither: EscapedLaws free-next: its first byte is neither, nor has the rest one; free_more:

@@ -1,10 +1,9 @@
 -- "`newline` is LF. `line_ending` is LF or CR LF. `not_line_ending` runs to the first CR or LF or the end; if that is a CR
 -- without LF it refuses. `space0`, `space1`: spaces and tabs, none or more, one or more. `multispace0`: also CR, LF."
 -- Assumes nothing.
+use Rattle.std.specs.Prelude.{Option, Some, None}
 use Rattle.std.specs.Prelude.{ℕ, ◌+◌, List, [], ◌∷◌, Bool, true, false, eqb}
 use Rattle.rst_bytes.specs.Tests.{one_of}
-use Rattle.rst_bytes.specs.declared.Part.{Part}
-use Rattle.rst_bytes.specs.declared.Part.TheVariants.{Taken, Refused}
 
 -- LF stands at the front
 abbrev pub starts_lf : List ℕ → Bool
@@ -12,31 +11,31 @@ starts_lf [] = false
 starts_lf (b ∷ rest) = eqb b 10
 
 -- "LF"
-unfoldable pub newline_of : List ℕ → Part
-newline_of s = elim (starts_lf s) [ true ↦ Taken 1 | false ↦ Refused ]
+unfoldable pub newline_of : List ℕ → Option ℕ
+newline_of s = elim (starts_lf s) [ true ↦ Some 1 | false ↦ None ]
 
 -- "LF or CR LF"
-unfoldable pub line_ending_of : List ℕ → Part
-line_ending_of [] = Refused
+unfoldable pub line_ending_of : List ℕ → Option ℕ
+line_ending_of [] = None
 line_ending_of (b ∷ rest) =
     elim (eqb b 10) [
-      | true ↦ Taken 1
-      | false ↦ elim (eqb b 13) [ true ↦ elim (starts_lf rest) [ true ↦ Taken 2 | false ↦ Refused ] | false ↦ Refused ]
+      | true ↦ Some 1
+      | false ↦ elim (eqb b 13) [ true ↦ elim (starts_lf rest) [ true ↦ Some 2 | false ↦ None ] | false ↦ None ]
     ]
 
 -- "runs to the first CR or LF or the end; if that is a CR without LF it refuses"; n bytes are passed
-unfoldable pub line_from : ℕ → List ℕ → Part
-line_from n [] = Taken n
+unfoldable pub line_from : ℕ → List ℕ → Option ℕ
+line_from n [] = Some n
 line_from n (b ∷ rest) =
     elim (eqb b 10) [
-      | true ↦ Taken n
+      | true ↦ Some n
       | false ↦ elim (eqb b 13) [
-        | true ↦ elim (starts_lf rest) [ true ↦ Taken n | false ↦ Refused ]
+        | true ↦ elim (starts_lf rest) [ true ↦ Some n | false ↦ None ]
         | false ↦ line_from (n + 1) rest
       ]
     ]
 
-abbrev pub not_line_ending_of : List ℕ → Part
+abbrev pub not_line_ending_of : List ℕ → Option ℕ
 not_line_ending_of s = line_from 0 s
 
 -- "spaces and tabs"
@@ -57,8 +56,8 @@ abbrev pub space0_of : List ℕ → ℕ
 space0_of s = bytes_from is_space 0 s
 
 -- "one or more"
-unfoldable pub space1_of : List ℕ → Part
-space1_of s = elim (eqb (space0_of s) 0) [ true ↦ Refused | false ↦ Taken (space0_of s) ]
+unfoldable pub space1_of : List ℕ → Option ℕ
+space1_of s = elim (eqb (space0_of s) 0) [ true ↦ None | false ↦ Some (space0_of s) ]
 
 abbrev pub multispace0_of : List ℕ → ℕ
 multispace0_of s = bytes_from is_multispace 0 s

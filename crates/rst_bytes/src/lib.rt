@@ -14,24 +14,3 @@ pub mod line;
 pub mod tag;
 pub mod trim;
 pub mod word;
-
-// What a piece takes from the front of its part: so many bytes, or that it refuses.
-#[derive(Clone, Copy)]
-pub enum Part {
-    Taken(usize),
-    Refused,
-}
-
-// The character at a place: its length in bytes and its code point, or that none starts there.
-#[derive(Clone, Copy)]
-pub enum Character {
-    Starts(usize, u32),
-    Nothing,
-}
-
-// The place of the first byte that starts no character of the domain, or that there is none.
-#[derive(Clone, Copy)]
-pub enum Outside {
-    At(usize),
-    Nowhere,
-}

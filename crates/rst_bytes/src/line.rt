@@ -11,112 +11,80 @@ ghost use Rattle.rst_bytes.specs.Line.{
   multispace0_of,
 };
 
-use crate::Part;
-use crate::free::free_front;
+use crate::free::{free_front, is_stop};
 
 // LF.
-pub fn newline(s: &[u8]) -> Part
+#[tactic(auto, unfolding(crate::specs::Line::newline_of))]
+pub fn newline(s: &[u8]) -> Option<usize>
     ensures { result ≡ newline_of s.now }
 {
-    if s.len() == 0 {
-        return Part::Refused;
-    }
-    let b = s[0];
-    if b == b'\n' {
-        Part::Taken(1)
-    } else {
-        Part::Refused
+    match s {
+        [b'\n', ..] => Some(1),
+        _ => None,
     }
 }
 
 // LF or CR LF.
-pub fn line_ending(s: &[u8]) -> Part
+#[tactic(auto, unfolding(crate::specs::Line::line_ending_of, crate::specs::Line::newline_of))]
+pub fn line_ending(s: &[u8]) -> Option<usize>
     ensures { result ≡ line_ending_of s.now }
 {
-    if s.len() == 0 {
-        return Part::Refused;
+    match s {
+        [b'\r', b'\n', ..] => Some(2),
+        _ => newline(s),
     }
-    let b = s[0];
-    if b == b'\n' {
-        return Part::Taken(1);
-    }
-    if b == b'\r' {
-        if s.len() == 1 {
-            return Part::Refused;
-        }
-        let c = s[1];
-        if c == b'\n' {
-            return Part::Taken(2);
-        }
-    }
-    Part::Refused
 }
 
 // The rest of the line: up to the first CR or LF or the end; refused where that is a CR without LF.
-pub fn not_line_ending(s: &[u8]) -> Part
+pub fn not_line_ending(s: &[u8]) -> Option<usize>
     ensures { result ≡ not_line_ending_of s.now }
 {
-    let mut i = free_front(s, b'\n', b'\r', b'\r');
-    while i < s.len() {
-        let b = s[i];
-        if b == b'\n' {
-            return Part::Taken(i);
-        }
-        if b == b'\r' {
-            let j = i + 1;
-            if s.len() <= j {
-                return Part::Refused;
-            }
-            let c = s[j];
-            if c == b'\n' {
-                return Part::Taken(i);
-            }
-            return Part::Refused;
-        }
-        i = i + 1;
+    let front = free_front(s, b'\n', b'\r', b'\r');
+    let rest = s[front..]
+        .iter()
+        .take_while(|&&b| !is_stop(b'\n', b'\r', b))
+        .count();
+    let i = front + rest;
+    if i == s.len() {
+        return Some(i);
     }
-    Part::Taken(i)
+    match line_ending(&s[i..]) {
+        Some(_) => Some(i),
+        None => None,
+    }
 }
 
 // A space or a tab.
+#[tactic(auto, unfolding(crate::specs::Line::is_space))]
 pub fn is_space(b: u8) -> bool
     ensures { result ≡ is_space b }
 {
-    b == b' ' || b == b'\t'
+    matches!(b, b' ' | b'\t')
 }
 
 // A space, a tab, CR or LF.
+#[tactic(auto, unfolding(crate::specs::Line::is_multispace))]
 pub fn is_multispace(b: u8) -> bool
     ensures { result ≡ is_multispace b }
 {
-    b == b' ' || (b == b'\t' || (b == b'\r' || b == b'\n'))
+    matches!(b, b' ' | b'\t' | b'\r' | b'\n')
 }
 
 // How many spaces and tabs stand at the front.
 pub fn space0(s: &[u8]) -> usize
     ensures { result ≡ space0_of s.now }
 {
-    let mut i = 0;
-    while i < s.len() {
-        let b = s[i];
-        if is_space(b) {
-            i = i + 1;
-        } else {
-            return i;
-        }
-    }
-    i
+    s.iter().take_while(|&&b| is_space(b)).count()
 }
 
 // The same, refused where there is none.
-pub fn space1(s: &[u8]) -> Part
+#[tactic(auto, unfolding(crate::specs::Line::space1_of))]
+pub fn space1(s: &[u8]) -> Option<usize>
     ensures { result ≡ space1_of s.now }
 {
-    let n = space0(s);
-    if n == 0 {
-        Part::Refused
-    } else {
-        Part::Taken(n)
+    match space0(s) {
+        0 => None,
+        n => Some(n),
     }
 }
 
@@ -124,14 +92,5 @@ pub fn space1(s: &[u8]) -> Part
 pub fn multispace0(s: &[u8]) -> usize
     ensures { result ≡ multispace0_of s.now }
 {
-    let mut i = 0;
-    while i < s.len() {
-        let b = s[i];
-        if is_multispace(b) {
-            i = i + 1;
-        } else {
-            return i;
-        }
-    }
-    i
+    s.iter().take_while(|&&b| is_multispace(b)).count()
 }

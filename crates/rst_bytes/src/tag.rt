@@ -9,17 +9,8 @@ pub fn tag(s: &[u8], t: &[u8]) -> bool
     if s.len() < t.len() {
         return false;
     }
-    let mut same = true;
-    let mut i = 0;
-    while i < t.len() {
-        let b = s[i];
-        let c = t[i];
-        if b != c {
-            same = false;
-            i = i + 1;
-        } else {
-            i = i + 1;
-        }
-    }
-    same
+    s[..t.len()]
+        .iter()
+        .zip(t)
+        .fold(true, |same, (b, c)| same & (b == c))
 }

@@ -3,7 +3,6 @@ ghost use Rattle.std.specs.Prelude.{◌≡◌, T};
 ghost use Rattle.rst_bytes.specs.Word.{in_ranges, is_ascii_word, is_word, word_of};
 ghost use Rattle.rst_bytes.specs.Inner.{apart};
 
-use crate::Character;
 use crate::domain::char_at;
 
 // The word characters above 7F: the first and the last code point of each range.
@@ -84,14 +83,14 @@ pub fn word_run(s: &[u8]) -> usize
             }
         } else {
             match char_at(s, i) {
-                Character::Starts(len, point) => {
+                Some((len, point)) => {
                     if is_word(point) {
                         i = i + len;
                     } else {
                         return i;
                     }
                 }
-                Character::Nothing => {
+                None => {
                     return i;
                 }
             }

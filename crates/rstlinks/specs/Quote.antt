@@ -1,6 +1,6 @@
 -- "In quotes, bytes below 20, above 7E, `"` and backslash are a backslash and two uppercase hex digits."
 -- Assumes nothing.
-use Rattle.std.specs.Prelude.{◌≡◌, ℕ, ◌+◌, ◌-◌, ◌/◌, ◌%◌, ◌≤◌, List, [], ◌∷◌, ◌++◌, length, take, Bool, true, false, ◌&&◌, not, ltb, eqb}
+use Rattle.std.specs.Prelude.{ℕ, ◌+◌, ◌-◌, ◌/◌, ◌%◌, List, [], ◌∷◌, ◌++◌, Bool, true, false, ◌&&◌, not, ltb, eqb}
 
 -- whether a byte stands in quotes as it is
 unfoldable pub is_plain : ℕ → Bool
@@ -20,7 +20,3 @@ shown_bytes (b ∷ rest) = shown_byte b ++ shown_bytes rest
 
 abbrev pub quoted : List ℕ → List ℕ
 quoted s = 0x22 ∷ (shown_bytes s ++ 0x22 ∷ [])
-
--- `&xs[..n]` is in bounds and has n bytes; the second part follows from the first
-abbrev pub IsPrefixLen : ℕ → List ℕ → Type 0
-IsPrefixLen n xs = (n ≤ length xs) × (n ≡ length (take n xs))

@@ -3,13 +3,14 @@
 #![tactic(auto)]
 
 mod head;
+mod links;
 mod quote;
 mod show;
 
 use filling::read_full;
 use std::io;
 
-// One byte more than the longest document is read, so that a longer one is refused.
+// One byte more than the longest document is read, so that a longer one is refused. Fixed areas: no heap.
 fn main(rt: HostRuntime) -> io::Result<()> {
     let mut document = [0u8; 16385];
     let n = read_full(&mut rt.stdin(), &mut document)?;

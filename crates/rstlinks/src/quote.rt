@@ -1,64 +1,45 @@
 // Strings in quotes: "bytes below 20, above 7E, `"` and backslash are a backslash and two uppercase hex digits".
-ghost use Rattle.std.specs.Prelude.{◌+◌, ◌*◌, ◌≤◌, ◌<◌, ◌≡◌, ◌++◌, length, take};
-ghost use Rattle.rstlinks.specs.Quote.{is_plain, hex_digit, shown_byte, quoted, IsPrefixLen};
+ghost use Rattle.std.specs.Prelude.{◌≡◌, Some};
+ghost use Rattle.rstlinks.specs.Quote.{is_plain, shown_byte, quoted};
 
-// Room for the longest string that a record holds, 32,767 bytes, in quotes.
-pub const LINE_LEN: usize = 98303;
+use std::fmt;
 
+#[tactic(auto, unfolding(crate::specs::Quote::is_plain))]
 fn is_plain(b: u8) -> bool
     ensures { result ≡ is_plain b }
 {
-    if b < 0x20 {
-        return false;
-    }
-    if 0x7E < b {
-        return false;
-    }
-    if b == b'"' {
-        return false;
-    }
-    if b == b'\\' {
-        return false;
-    }
-    true
+    (0x20..=0x7E).contains(&b) && b != b'"' && b != b'\\'
 }
 
-fn hex_digit(n: u8) -> u8
-    requires { n < 16 }
-    ensures { result ≡ hex_digit n }
-{
-    if n < 10 { b'0' + n } else { n - 10 + b'A' }
+// A byte that prints as it stands in quotes.
+#[derive(Clone, Copy)]
+struct Shown(u8);
+
+impl fmt::Display for Shown {
+    ghost output = { λ b. Some (shown_byte b.0) };
+
+    fn fmt<W: fmt::Write>(&self, f: &mut fmt::Formatter<W>) -> fmt::Result {
+        let b = self.0;
+        if is_plain(b) {
+            f.write_char(char::from(b))
+        } else {
+            write!(f, "\\{b:02X}")
+        }
+    }
 }
 
-// A byte as it stands in quotes, put at a place; where it ends.
-fn put(b: u8, line: &mut [u8], at: usize) -> usize
-    requires { at + 3 ≤ length line.old }
-    ensures shown { take result line.new ≡ take at line.old ++ shown_byte b }
-    ensures end { (at ≤ result) × (result ≤ at + 3) }
-{
-    if is_plain(b) {
-        line[at] = b;
-        return at + 1;
-    }
-    line[at] = b'\\';
-    line[at + 1] = hex_digit(b / 16);
-    line[at + 2] = hex_digit(b % 16);
-    at + 3
-}
+// A string that prints in quotes.
+#[derive(Clone, Copy)]
+pub struct Quoted<'a>(pub &'a [u8]);
 
-// A string in quotes, written to the front of the line; how many bytes it is.
-pub fn quote(s: &[u8], line: &mut [u8]) -> usize
-    requires { 3 * length s.now + 2 ≤ length line.old }
-    ensures quoted { take result line.new ≡ quoted s.now }
-    ensures size { IsPrefixLen result line.new }
-{
-    line[0] = b'"';
-    let mut at = 1;
-    let mut i = 0;
-    while i < s.len() {
-        at = put(s[i], line, at);
-        i += 1;
+impl fmt::Display for Quoted<'_> {
+    ghost output = { λ s. Some (quoted s.0.now) };
+
+    fn fmt<W: fmt::Write>(&self, f: &mut fmt::Formatter<W>) -> fmt::Result {
+        f.write_char('"')?;
+        for b in self.0 {
+            Shown(*b).fmt(f)?;
+        }
+        f.write_char('"')
     }
-    line[at] = b'"';
-    at + 1
 }

@@ -6,8 +6,9 @@ use mathlib.Core.Path.{◌≡◌, refl, sym, ap, subst, ◌∙◌}
 use mathlib.Core.List.{List}
 use Rattle.parse.specs.declared.Link.{Link}
 use Rattle.parse.specs.declared.Link.TheVariants.{Text2Dest, TextLabel2Dest, Text2Label, Label2Dest, Label2Label}
-use Rattle.parse.specs.declared.Single.{Single}
-use Rattle.parse.specs.declared.Single.TheVariants.{Linked, Refused}
+use Rattle.std.proofs.Common.{Result, Ok, Err}
+use Rattle.parse.specs.declared.refusal.Refusal.{Refusal}
+use Rattle.parse.specs.Refusal.{number_of, bytes_of}
 use Rattle.parse.specs.Single.{link_outcome, outcome_of, single_of}
 use Rattle.parse.proofs.SizeLaws.{Small, single-small}
 use Rattle.rstlinks_c.specs.declared.Taken.{Taken}
@@ -28,29 +29,29 @@ link-said (Label2Dest a b skipped consumed) f g = refl
 link-said (Label2Label a b skipped consumed) f g = refl
 
 -- The call of document s, place and buffers f and g answered r, which is r', and left the buffers as f' and g'.
-module _ (s : List ℕ) (place : ℕ) (f g f' g' : List ℕ) (r r' : Single) (e : outcome_of r f' g' ≡ single_of s place f g) (h : r ≡ r') where
+module _ (s : List ℕ) (place : ℕ) (f g f' g' : List ℕ) (r r' : Result Link Refusal) (e : outcome_of r f' g' ≡ single_of s place f g) (h : r ≡ r') where
   said : outcome_of r' f' g' ≡ single_of s place f g
-  said = sym (ap (λ (z : Single). outcome_of z f' g') h) ∙ e
+  said = sym (ap (λ (z : Result Link Refusal). outcome_of z f' g') h) ∙ e
 
   small : Small (outcome_of r' f' g')
   small = subst Small (sym said) (single-small s place f g)
 
 -- a link
 module _
-    (s : List ℕ) (place : ℕ) (f g f' g' : List ℕ) (r : Single) (x : Link) (e : outcome_of r f' g' ≡ single_of s place f g)
-    (h : r ≡ Linked x) where
+    (s : List ℕ) (place : ℕ) (f g f' g' : List ℕ) (r : Result Link Refusal) (x : Link) (e : outcome_of r f' g' ≡ single_of s place f g)
+    (h : r ≡ Ok x) where
   pub link-short : LinkShort x
-  link-short = small-link x f' g' (small s place f g f' g' r (Linked x) e h)
+  link-short = small-link x f' g' (small s place f g f' g' r (Ok x) e h)
 
   pub link-answered : (t : Taken) → t ≡ link_taken x → taken t f' g' ≡ single_of s place f g
-  link-answered t q = ap (λ (z : Taken). taken z f' g') q ∙ link-said x f' g' ∙ said s place f g f' g' r (Linked x) e h
+  link-answered t q = ap (λ (z : Taken). taken z f' g') q ∙ link-said x f' g' ∙ said s place f g f' g' r (Ok x) e h
 
 -- a refusal
 module _
-    (s : List ℕ) (place : ℕ) (f g f' g' : List ℕ) (r : Single) (number n : ℕ) (e : outcome_of r f' g' ≡ single_of s place f g)
-    (h : r ≡ Refused number n) where
-  pub refused-short : Short n
-  refused-short = let w = small s place f g f' g' r (Refused number n) e h in omega (arith, w.0)
+    (s : List ℕ) (place : ℕ) (f g f' g' : List ℕ) (r : Result Link Refusal) (d : Refusal) (e : outcome_of r f' g' ≡ single_of s place f g)
+    (h : r ≡ Err d) where
+  pub refused-short : Short (bytes_of d)
+  refused-short = let w = small s place f g f' g' r (Err d) e h in omega (arith, w.0)
 
-  pub refused-answered : (t : Taken) → t ≡ refusal number n → taken t f' g' ≡ single_of s place f g
-  refused-answered t q = ap (λ (z : Taken). taken z f' g') q ∙ said s place f g f' g' r (Refused number n) e h
+  pub refused-answered : (t : Taken) → t ≡ refusal (number_of d) (bytes_of d) → taken t f' g' ≡ single_of s place f g
+  refused-answered t q = ap (λ (z : Taken). taken z f' g') q ∙ said s place f g f' g' r (Err d) e h

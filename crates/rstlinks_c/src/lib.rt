@@ -4,18 +4,19 @@
 #![tactic(auto)]
 
 ghost use Rattle.std.specs.Prelude.{◌≡◌};
+ghost use Rattle.parse.specs.Refusal.{number_of, bytes_of};
 ghost use Rattle.parse.specs.Single.{single_of};
 ghost use Rattle.iterator.specs.Document.{answer_of, document_of, verdict};
 ghost use Rattle.rstlinks_c.specs.Taken.{taken, Short, AllShort, LinkShort, refusal, acceptance, link_taken};
 
 use iterator::Outcome;
-use parse::{Link, Single, single_link};
+use parse::{Link, Refusal, single_link};
 use restructured_text::Span;
 
 // An answer: the number of a refusal, or 0, and its place or size in bytes; the case, 1 to 5, or 0; the bytes skipped and consumed;
-// the lengths of the two strings, which stand at the front of the buffers. What is not named is 0.
+// the lengths of the two strings, which stand at the front of the buffers. What is not named is 0. Numbers, as C reads it.
 #[repr(C)]
-#[derive(Clone, Copy)]
+#[derive(Clone, Copy, Debug, Default, PartialEq, Eq)]
 pub struct Taken {
     pub number: u32,
     pub bytes: u32,
@@ -26,18 +27,14 @@ pub struct Taken {
     pub second: u32,
 }
 
-fn refused(number: u32, bytes: usize) -> Taken
-    requires { Short bytes }
-    ensures { result ≡ refusal number bytes }
+fn refused(r: Refusal) -> Taken
+    requires { Short (bytes_of r) }
+    ensures { result ≡ refusal (number_of r) (bytes_of r) }
 {
     Taken {
-        number,
-        bytes: bytes as u32,
-        kind: 0,
-        skipped: 0,
-        consumed: 0,
-        first: 0,
-        second: 0,
+        number: r.number(),
+        bytes: r.bytes() as u32,
+        ..Taken::default()
     }
 }
 
@@ -46,16 +43,16 @@ fn linked(kind: u32, a: Span, b: Span, skipped: usize, consumed: usize) -> Taken
     ensures { result ≡ acceptance kind a.len b.len skipped consumed }
 {
     Taken {
-        number: 0,
-        bytes: 0,
         kind,
         skipped: skipped as u32,
         consumed: consumed as u32,
         first: a.len as u32,
         second: b.len as u32,
+        ..Taken::default()
     }
 }
 
+// No `From`: it asks that 32 bits hold the lengths.
 fn link(x: Link) -> Taken
     requires { LinkShort x }
     ensures { result ≡ link_taken x }
@@ -74,8 +71,8 @@ pub fn rst_take_link(document: &[u8], place: usize, first: &mut [u8], second: &m
     ensures { taken result first.new second.new ≡ single_of document.now place first.old second.old }
 {
     match single_link(document, place, first, second) {
-        Single::Linked(x) => link(x),
-        Single::Refused(number, bytes) => refused(number, bytes),
+        Ok(x) => link(x),
+        Err(r) => refused(r),
     }
 }
 

@@ -1,6 +1,7 @@
 -- The laws of a block that begins with `.. _` or `__ `, one for each way through the bodies that ask whether it is no target: the text begins with
 -- the line's bytes up to its end, so what is told of the next places is told of the rest of the text.
 -- Assumes nothing.
+use Rattle.std.proofs.Common.{Some}
 use Prim.Native.Nat.{ℕ, ◌+◌, ◌-◌, ◌<◌, ◌≤◌}
 use native.Mathlib.Omega.{arith}
 use mathlib.Core.Path.{◌≡◌, refl, sym, ap, subst⁻¹, ◌∙◌}
@@ -11,7 +12,6 @@ use lib.ListN.{length, get_or, drop, take}
 use lib.Seq.{get_or-drop}
 use Rattle.rst_bytes.specs.Line.{not_line_ending_of}
 use Rattle.rst_bytes.specs.Tag.{starts_with}
-use Rattle.rst_bytes.specs.declared.Part.TheVariants.{Taken}
 use Rattle.rst_bytes.proofs.Lists.{part-from}
 use Rattle.rst_bytes.proofs.TagLaws.{starts-append}
 use Rattle.restructured_text.specs.Block.{three, further_of}
@@ -31,11 +31,11 @@ use Rattle.targetless.proofs.StateLaws.{first_byte_lem, second, followed, two}
 
 -- The flag says whether a further line follows.
 abbrev pub Flagged : Bool → List ℕ → List ℕ → Type 0
-Flagged on indent s = (n : ℕ) → not_line_ending_of s ≡ Taken n → on ≡ is_further (further_of indent (drop n s))
+Flagged on indent s = (n : ℕ) → not_line_ending_of s ≡ Some n → on ≡ is_further (further_of indent (drop n s))
 
 -- A verdict that the flag selects is true of the text.
 told-by :
-    (g : List ℕ → Bool) (v : Verdict) (s indent : List ℕ) (on : Bool) (n : ℕ) → Tells g v s → Blank indent → not_line_ending_of s ≡ Taken n
+    (g : List ℕ → Bool) (v : Verdict) (s indent : List ℕ) (on : Bool) (n : ℕ) → Tells g v s → Blank indent → not_line_ending_of s ≡ Some n
     → on ≡ is_further (further_of indent (drop n s)) → judged_of v on (length indent) ≡ true → g (joined_of indent n s) ≡ true
 told-by g v s indent on n k b t o j = k indent n b t (ap (λ (x : Bool). judged_of v x (length indent)) (sym o) ∙ j)
 
@@ -45,7 +45,7 @@ module _ (s indent : List ℕ) (e : ℕ) (h : e < length s) (f : get_or s e 0 �
   inside = ap ends_line f
 
   -- a name that is empty
-  pub told-empty : starts_with (0x5F ∷ 0x3A ∷ []) (from s e) ≡ true → (n : ℕ) → not_line_ending_of (drop e s) ≡ Taken n → Unnamed (joined_of indent n (drop e s))
+  pub told-empty : starts_with (0x5F ∷ 0x3A ∷ []) (from s e) ≡ true → (n : ℕ) → not_line_ending_of (drop e s) ≡ Some n → Unnamed (joined_of indent n (drop e s))
   told-empty k n t =
       let c = followed s e h inside 0x5F 0x3A [] f (ap (starts_with (0x5F ∷ 0x3A ∷ [])) (sym (part-from s e)) ∙ k) in
       let y = two s e h inside indent n 0x3A t c.0 c.1 refl in
@@ -56,7 +56,7 @@ module _ (s indent : List ℕ) (e : ℕ) (h : e < length s) (f : get_or s e 0 �
     -- a plain name
     pub told-plain :
         (v : Verdict) → Tells plain_run v (drop (e + 1) s) → starts_with (0x5F ∷ 0x60 ∷ []) (from s e) ≡ false → judged_of v on (length indent) ≡ true
-        → (n : ℕ) → not_line_ending_of (drop e s) ≡ Taken n → Unnamed (joined_of indent n (drop e s))
+        → (n : ℕ) → not_line_ending_of (drop e s) ≡ Some n → Unnamed (joined_of indent n (drop e s))
     told-plain v g k j n t =
         let z = text-byte indent s e n h inside t in
         let r = joined_of indent z.0 (drop (e + 1) s) in
@@ -69,7 +69,7 @@ module _ (s indent : List ℕ) (e : ℕ) (h : e < length s) (f : get_or s e 0 �
         (u v x : Verdict) → Tells plain_run u (drop (e + 1) s) → Tells quoted_run v (drop (e + 1 + 1) s) → Tells closed_run x (drop (e + 1 + 1) s)
         → starts_with (0x5F ∷ 0x60 ∷ []) (from s e) ≡ true → judged_of v on (length indent) ≡ true
         → (judged_of u on (length indent) ≡ true) ⊎ (judged_of x on (length indent) ≡ true)
-        → (n : ℕ) → not_line_ending_of (drop e s) ≡ Taken n → Unnamed (joined_of indent n (drop e s))
+        → (n : ℕ) → not_line_ending_of (drop e s) ≡ Some n → Unnamed (joined_of indent n (drop e s))
     told-quoted u v x gu gv gx k j d n t =
         let c = followed s e h inside 0x5F 0x60 [] f (ap (starts_with (0x5F ∷ 0x60 ∷ [])) (sym (part-from s e)) ∙ k) in
         let z = text-byte indent s e n h inside t in
@@ -149,7 +149,7 @@ module _ (s : List ℕ) (k e : ℕ) (p : (e < length s) × (k + 3 ≤ e) × Inde
 
       -- a name with none
       pub free-unnamed :
-          (get_or s (e - 3) 0 ≡ 0x5F → ⊥) → ((n : ℕ) → not_line_ending_of (drop e s) ≡ Taken n → Unnamed (joined_of indent n (drop e s))) → NoTarget (drop k s)
+          (get_or s (e - 3) 0 ≡ 0x5F → ⊥) → ((n : ℕ) → not_line_ending_of (drop e s) ≡ Some n → Unnamed (joined_of indent n (drop e s))) → NoTarget (drop k s)
       free-unnamed q g =
           let t = here.7 i in
           no-target-unnamed s k (e - 3) t.0 p.2 (dots-only (drop (e - 3) s) (headed q))

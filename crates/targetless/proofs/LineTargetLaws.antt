@@ -2,6 +2,7 @@
 -- destination, and what is told of destinations at the line's end is told of it: the space before it changes nothing. Behind all blanks it is the
 -- target that stands there.
 -- Assumes nothing.
+use Rattle.std.proofs.Common.{Some, None}
 use Prim.Native.Nat.{ℕ, zero, suc, ◌+◌, ◌-◌, ◌<◌, ◌≤◌}
 use native.Mathlib.Omega.{arith}
 use mathlib.Core.Path.{◌≡◌, refl, sym, ap, subst, subst⁻¹, ◌∙◌}
@@ -16,13 +17,11 @@ use Rattle.rst_bytes.specs.Domain.{run}
 use Rattle.rst_bytes.specs.Line.{is_space, bytes_from, space0_of, not_line_ending_of}
 use Rattle.rst_bytes.specs.Tag.{starts_with}
 use Rattle.rst_bytes.specs.Word.{is_ascii_word, word_of}
-use Rattle.rst_bytes.specs.declared.Part.TheVariants.{Taken}
 use Rattle.rst_bytes.proofs.LineLaws.{bytes_count}
 use Rattle.rst_bytes.proofs.TestLaws.{picks_first, picks_second, by-test, lt-or-le}
 use Rattle.rst_bytes.proofs.TagLaws.{starts-le}
 use Rattle.rst_bytes.proofs.WordLaws.{word-ended}
 use Rattle.restructured_text.specs.Block.{three, further_of}
-use Rattle.restructured_text.specs.declared.block.Line.TheVariants.{End}
 use Rattle.targetless.specs.declared.Verdict.{Verdict}
 use Rattle.targetless.specs.Verdict.{joined_of, is_further, Blank, ends_line, judged_of, both_of, up_to_of, Tells, Follows, Shared}
 use Rattle.targetless.specs.Runs.{escapable_of, word_labelled, is_dead, destination_run, line_stop}
@@ -105,20 +104,20 @@ follows-blanks next w (c ∷ q) (b ∷ s) blank e t =
     follows-blanks next w q s (blank-next c q blank) y.1 (behind (space-plain b (ap is_space y.0 ∙ blank 0 (omega arith))).0)
   where
     behind : ends_line b ≡ false → Follows next w s
-    behind f indent n g h = t indent (suc n) g (line_taken b s f n h ∙ ap Taken (omega arith))
+    behind f indent n g h = t indent (suc n) g (line_taken b s f n h ∙ ap Some (omega arith))
 
 -- No further line follows the line's end at place i, behind a colon: no space stands behind the colon.
 module _ (s : List ℕ) (i : ℕ) (e : ends_line (get_or s i 0) ≡ true) where
-  line-none : (indent : List ℕ) (n : ℕ) → not_line_ending_of (drop i s) ≡ Taken n → further_of indent (drop n (drop i s)) ≡ End → line_stop (joined_of indent n (drop i s)) ≡ true
+  line-none : (indent : List ℕ) (n : ℕ) → not_line_ending_of (drop i s) ≡ Some n → further_of indent (drop n (drop i s)) ≡ None → line_stop (joined_of indent n (drop i s)) ≡ true
   unfolding starts_with
   line-none indent n t f = ap line_stop (text-alone indent s i n e t f)
 
-  pub line-lone : ((indent : List ℕ) → Blank indent → further_of indent (drop i s) ≡ End) → (v : Verdict) → Tells line_stop v (drop i s)
+  pub line-lone : ((indent : List ℕ) → Blank indent → further_of indent (drop i s) ≡ None) → (v : Verdict) → Tells line_stop v (drop i s)
   line-lone f v indent n b t p =
       line-none indent n t (ap (λ (m : ℕ). further_of indent (drop m (drop i s))) (ends-here indent s i n e t) ∙ f indent b)
 
 -- LF at place i, behind a colon. The next line, which has m bytes, begins with q blanks; k of them stand at the front of the line behind it too.
-module _ (s : List ℕ) (i : ℕ) (h : i < length s) (lf : get_or s i 0 ≡ 10) (m : ℕ) (line : not_line_ending_of (drop (i + 1) s) ≡ Taken m) (next k : ℕ) (follows : Follows next s (drop (i + 1) s)) (shared : Shared k (drop (i + 1) s) (drop next s)) (v front : Verdict) where
+module _ (s : List ℕ) (i : ℕ) (h : i < length s) (lf : get_or s i 0 ≡ 10) (m : ℕ) (line : not_line_ending_of (drop (i + 1) s) ≡ Some m) (next k : ℕ) (follows : Follows next s (drop (i + 1) s)) (shared : Shared k (drop (i + 1) s) (drop next s)) (v front : Verdict) where
   abbrev l : List ℕ
   l = drop (i + 1) s
 
@@ -126,7 +125,7 @@ module _ (s : List ℕ) (i : ℕ) (h : i < length s) (lf : get_or s i 0 ≡ 10) 
   q = space0_of l
 
   -- Behind an indent with three spaces.
-  module _ (indent : List ℕ) (blank : Blank indent) (n : ℕ) (starts : starts_with (indent ++ three) l ≡ true) (here : not_line_ending_of (drop (i + 1 + (length indent + 3)) s) ≡ Taken n) where
+  module _ (indent : List ℕ) (blank : Blank indent) (n : ℕ) (starts : starts_with (indent ++ three) l ≡ true) (here : not_line_ending_of (drop (i + 1 + (length indent + 3)) s) ≡ Some n) where
     abbrev text : List ℕ
     text = joined_of indent n (drop (i + 1 + (length indent + 3)) s)
 

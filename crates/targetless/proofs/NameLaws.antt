@@ -1,6 +1,7 @@
 -- What the runs say of names. A run over a name ends where `escaped` ends: at a stop byte, at the text's end, or at a wrong escape, which refuses
 -- the name. So it tells whether the name is closed, and of the target behind it.
 -- Assumes nothing.
+use Rattle.std.proofs.Common.{Option, Some, None}
 use Prim.Native.Nat.{ℕ, suc, ◌+◌, ◌-◌}
 use native.Mathlib.Omega.{arith}
 use mathlib.Core.Path.{◌≡◌, refl, sym, ap, subst⁻¹, ◌∙◌}
@@ -13,8 +14,6 @@ use lib.Seq.{drop-nil, drop-drop}
 use borrow.Author.Tests.{eq-eqb, ne_eqb, eqb-true}
 use Rattle.rst_bytes.specs.Escaped.{is_escapable, is_stop, taking, escaped_of}
 use Rattle.rst_bytes.specs.Tag.{starts_with}
-use Rattle.rst_bytes.specs.declared.Part.{Part}
-use Rattle.rst_bytes.specs.declared.Part.TheVariants.{Taken, Refused}
 use Rattle.rst_bytes.proofs.EscapedLaws.{refused-taken, taken_is, taken-from, taken_back, first-stop, first-other}
 use Rattle.restructured_text.specs.Delimited.{delimited_of}
 use Rattle.restructured_text.specs.Strings.{none}
@@ -33,7 +32,7 @@ at_or at end (b ∷ l) = at (b ∷ l)
 
 module _ (p : ℕ) (at : List ℕ → Bool) (wrong end : Bool) where
   -- behind the n bytes, counted from a on, that `escaped` takes
-  run-taken : (t : List ℕ) (a n : ℕ) → taking p p false a t ≡ Taken (a + n) → run p (escapable_of true) at wrong end t ≡ at_or at end (drop n t)
+  run-taken : (t : List ℕ) (a n : ℕ) → taking p p false a t ≡ Some (a + n) → run p (escapable_of true) at wrong end t ≡ at_or at end (drop n t)
   unfolding run
   run-taken [] a n e = sym (ap (at_or at end) (drop-nil n))
   run-taken (b ∷ []) a n e =
@@ -59,7 +58,7 @@ module _ (p : ℕ) (at : List ℕ → Bool) (wrong end : Bool) where
       let y : a + n ≡ a + 2 + (n - 2) = omega (arith, w.0) in
       let z : suc (suc (n - 2)) ≡ n = omega (arith, w.0) in
       run-pair p (escapable_of true) at wrong end b c t i j
-      ∙ run-taken t (a + 2) (n - 2) (sym (taking-pair p a b c t i j) ∙ e ∙ ap Taken y)
+      ∙ run-taken t (a + 2) (n - 2) (sym (taking-pair p a b c t i j) ∙ e ∙ ap Some y)
       ∙ ap (λ (m : ℕ). at_or at end (drop m (b ∷ c ∷ t))) z)
       (λ j. absurd (refused-taken (a + n) (sym (taking-wrong p a b c t i j) ∙ e)))
       (either (is_escapable c)))
@@ -72,13 +71,13 @@ module _ (p : ℕ) (at : List ℕ → Bool) (wrong end : Bool) where
       let y : a + n ≡ a + 1 + (n - 1) = omega (arith, w.0) in
       let z : suc (n - 1) ≡ n = omega (arith, w.0) in
       run-plain p (escapable_of true) at wrong end b (c ∷ t) i j
-      ∙ run-taken (c ∷ t) (a + 1) (n - 1) (sym (taking-byte p a b (c ∷ t) i j) ∙ e ∙ ap Taken y)
+      ∙ run-taken (c ∷ t) (a + 1) (n - 1) (sym (taking-byte p a b (c ∷ t) i j) ∙ e ∙ ap Some y)
       ∙ ap (λ (m : ℕ). at_or at end (drop m (b ∷ c ∷ t))) z)
       (either (eqb b p)))
       (either (eqb b 0x5C))
 
   -- where it refuses
-  run-misses : (t : List ℕ) (a : ℕ) → taking p p false a t ≡ Refused → run p (escapable_of true) at wrong end t ≡ wrong
+  run-misses : (t : List ℕ) (a : ℕ) → taking p p false a t ≡ None → run p (escapable_of true) at wrong end t ≡ wrong
   unfolding taking
   run-misses [] a e = absurd (refused-taken a (sym e))
   run-misses (b ∷ []) a e =
@@ -102,7 +101,7 @@ module _ (p : ℕ) (at : List ℕ → Bool) (wrong end : Bool) where
       (either (eqb b 0x5C))
 
   -- the same of `escaped`
-  run-escaped : (t : List ℕ) (n : ℕ) → escaped_of p p t ≡ Taken n → run p (escapable_of true) at wrong end t ≡ at_or at end (drop n t)
+  run-escaped : (t : List ℕ) (n : ℕ) → escaped_of p p t ≡ Some n → run p (escapable_of true) at wrong end t ≡ at_or at end (drop n t)
   run-escaped t n e = run-taken t 0 n (taken-from p p 0 t n e)
 
 -- Where a run says true before a name's end, the target behind it is refused.
@@ -117,21 +116,21 @@ quoted-dead [] e f = absurd (false≢true e)
 quoted-dead (b ∷ l) e f = sym (ap (λ (x : Bool). not x || is_dead (drop 3 (b ∷ l))) e) ∙ f
 
 -- A plain name, where there is none in backticks.
-module _ (r : List ℕ) (q : delimited_of (0x5F ∷ 0x60 ∷ []) 0x60 0x60 (0x60 ∷ 0x3A ∷ 0x20 ∷ []) (0x5F ∷ r) ≡ Refused) where
+module _ (r : List ℕ) (q : delimited_of (0x5F ∷ 0x60 ∷ []) 0x60 0x60 (0x60 ∷ 0x3A ∷ 0x20 ∷ []) (0x5F ∷ r) ≡ None) where
   begins : starts_with (0x5F ∷ []) (0x5F ∷ r) ≡ true
   unfolding starts_with
   begins = refl
 
-  nameless : delimited_of (0x5F ∷ []) 0x3A 0x3A (0x3A ∷ 0x20 ∷ []) (0x5F ∷ r) ≡ Refused → Unnamed (0x5F ∷ r)
+  nameless : delimited_of (0x5F ∷ []) 0x3A 0x3A (0x3A ∷ 0x20 ∷ []) (0x5F ∷ r) ≡ None → Unnamed (0x5F ∷ r)
   nameless e label size = named_none label (0x5F ∷ r) size (parse-none label (0x5F ∷ r) (name-plain (0x5F ∷ r) q ∙ plain-none (0x5F ∷ r) e))
 
-  plain-refused : escaped_of 0x3A 0x3A r ≡ Refused → Unnamed (0x5F ∷ r)
+  plain-refused : escaped_of 0x3A 0x3A r ≡ None → Unnamed (0x5F ∷ r)
   plain-refused e = nameless (delimited-refused (0x5F ∷ []) 0x3A 0x3A (0x3A ∷ 0x20 ∷ []) (0x5F ∷ r) r begins refl e)
 
   plain-unnamed : plain_run r ≡ true → Unnamed (0x5F ∷ r)
   plain-unnamed f label size = go (escaped_of 0x3A 0x3A r) refl
     where
-      closed : (n : ℕ) → escaped_of 0x3A 0x3A r ≡ Taken n → starts_with (0x3A ∷ 0x20 ∷ []) (drop n r) ≡ true → named_of label (0x5F ∷ r) size ≡ none
+      closed : (n : ℕ) → escaped_of 0x3A 0x3A r ≡ Some n → starts_with (0x3A ∷ 0x20 ∷ []) (drop n r) ≡ true → named_of label (0x5F ∷ r) size ≡ none
       closed n e g =
           let z : suc (n + 2) ≡ n + 3 = omega arith in
           named-refused (0x5F ∷ r) size _ (n + 3) (drop 2 (drop n r))
@@ -139,13 +138,13 @@ module _ (r : List ℕ) (q : delimited_of (0x5F ∷ 0x60 ∷ []) 0x60 0x60 (0x60
           (drop-drop 2 n r ∙ ap (λ (j : ℕ). drop j (0x5F ∷ r)) z) _
           (dead-refused (drop 2 (drop n r)) (plain-dead (drop n r) g (sym (run-escaped 0x3A plain_stop true true r n e) ∙ f))) label
 
-      go : (x : Part) → escaped_of 0x3A 0x3A r ≡ x → named_of label (0x5F ∷ r) size ≡ none
-      go (Taken n) e =
+      go : (x : Option ℕ) → escaped_of 0x3A 0x3A r ≡ x → named_of label (0x5F ∷ r) size ≡ none
+      go (Some n) e =
           ⊎_elim
           (λ g. closed n e g)
           (λ g. nameless (delimited-unclosed (0x5F ∷ []) 0x3A 0x3A (0x3A ∷ 0x20 ∷ []) (0x5F ∷ r) r begins refl n _ e refl g) label size)
           (either (starts_with (0x3A ∷ 0x20 ∷ []) (drop n r)))
-      go Refused e = plain-refused e label size
+      go None e = plain-refused e label size
 
 pub unnamed-plain : (r : List ℕ) → starts_with (0x60 ∷ []) r ≡ false → plain_run r ≡ true → Unnamed (0x5F ∷ r)
 unfolding starts_with
@@ -170,14 +169,14 @@ module _ (r : List ℕ) (f : quoted_run r ≡ true) where
   unfolding run starts_with
   empty-plain e = subst⁻¹ (λ (t : List ℕ). quoted_run t ≡ true → plain_run (0x60 ∷ t) ≡ true) (starts_is (0x60 ∷ 0x3A ∷ 0x20 ∷ []) r e) (λ h. h) f
 
-  quoted-refused : escaped_of 0x60 0x60 r ≡ Refused → (plain_run (0x60 ∷ r) ≡ true) ⊎ (closed_run r ≡ true) → Unnamed (0x5F ∷ 0x60 ∷ r)
+  quoted-refused : escaped_of 0x60 0x60 r ≡ None → (plain_run (0x60 ∷ r) ≡ true) ⊎ (closed_run r ≡ true) → Unnamed (0x5F ∷ 0x60 ∷ r)
   unfolding escaped_of
   quoted-refused e g =
       plain-unnamed (0x60 ∷ r)
       (delimited-refused (0x5F ∷ 0x60 ∷ []) 0x60 0x60 (0x60 ∷ 0x3A ∷ 0x20 ∷ []) (0x5F ∷ 0x60 ∷ r) r ticked refl e)
       (⊎_elim (λ h. h) (λ h. empty-plain (closed r e h)) g)
     where
-      closed : (t : List ℕ) → escaped_of 0x60 0x60 t ≡ Refused → closed_run t ≡ true → starts_with (0x60 ∷ 0x3A ∷ 0x20 ∷ []) t ≡ true
+      closed : (t : List ℕ) → escaped_of 0x60 0x60 t ≡ None → closed_run t ≡ true → starts_with (0x60 ∷ 0x3A ∷ 0x20 ∷ []) t ≡ true
       closed [] i h = absurd (refused-taken 0 (sym i))
       closed (b ∷ t) i h =
           ⊎_elim
@@ -187,7 +186,7 @@ module _ (r : List ℕ) (f : quoted_run r ≡ true) where
           (λ j. absurd (false≢true (sym (run-misses 0x60 closed_stop false false (b ∷ t) 0 (sym (first-other 0x60 0x60 (b ∷ t) (omega arith) j) ∙ i)) ∙ h)))
           (either (is_stop 0x60 0x60 b))
 
-  module _ (n : ℕ) (e : escaped_of 0x60 0x60 r ≡ Taken n) where
+  module _ (n : ℕ) (e : escaped_of 0x60 0x60 r ≡ Some n) where
     quoted-closed : starts_with (0x60 ∷ 0x3A ∷ 0x20 ∷ []) (drop n r) ≡ true → Unnamed (0x5F ∷ 0x60 ∷ r)
     quoted-closed g label size =
         let z : suc (suc (n + 3)) ≡ n + 5 = omega arith in
@@ -209,10 +208,10 @@ module _ (r : List ℕ) (f : quoted_run r ≡ true) where
 pub unnamed-quoted : (r : List ℕ) → quoted_run r ≡ true → (plain_run (0x60 ∷ r) ≡ true) ⊎ (closed_run r ≡ true) → Unnamed (0x5F ∷ 0x60 ∷ r)
 unnamed-quoted r f g = go (escaped_of 0x60 0x60 r) refl
   where
-    go : (x : Part) → escaped_of 0x60 0x60 r ≡ x → Unnamed (0x5F ∷ 0x60 ∷ r)
-    go (Taken n) e =
+    go : (x : Option ℕ) → escaped_of 0x60 0x60 r ≡ x → Unnamed (0x5F ∷ 0x60 ∷ r)
+    go (Some n) e =
         ⊎_elim
         (λ h. quoted-closed r f n e h)
         (λ h. quoted-open r f n e h g)
         (either (starts_with (0x60 ∷ 0x3A ∷ 0x20 ∷ []) (drop n r)))
-    go Refused e = quoted-refused r f e g
+    go None e = quoted-refused r f e g

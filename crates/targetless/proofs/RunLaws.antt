@@ -2,6 +2,7 @@
 -- target is all of the text, and where one is closed the run over labels says that a wrong escape stands in it. Behind that, one step of a run and
 -- of `taking`, for the laws of names.
 -- Assumes nothing.
+use Rattle.std.proofs.Common.{Option, Some, None}
 use Prim.Native.Nat.{ℕ, zero, suc, ◌+◌, ◌-◌, ◌<◌, ◌≤◌}
 use native.Mathlib.Omega.{arith}
 use mathlib.Core.Path.{◌≡◌, refl, sym, ap, subst⁻¹, ◌∙◌}
@@ -15,15 +16,13 @@ use borrow.Author.Tests.{eq-eqb, ne_eqb, eqb-true, lt-ltb, leb-true, leb-false, 
 use Rattle.rst_bytes.specs.Escaped.{is_escapable, is_stop, taking}
 use Rattle.rst_bytes.specs.Tag.{starts_with}
 use Rattle.rst_bytes.specs.Word.{is_ascii_word, word_of}
-use Rattle.rst_bytes.specs.declared.Part.{Part}
-use Rattle.rst_bytes.specs.declared.Part.TheVariants.{Taken, Refused}
 use Rattle.rst_bytes.proofs.TestLaws.{picks_first, picks_second, by-test, or_cases, lt-or-le}
 use Rattle.rst_bytes.proofs.TagLaws.{starts-le}
 use Rattle.rst_bytes.proofs.EscapedLaws.{refused-taken, taken_is, taken-from, taken_back, first-stop}
 use Rattle.rst_bytes.proofs.WordLaws.{word-within, word-ended}
-use Rattle.restructured_text.specs.declared.label.SimpleLabel.TheVariants.{NoLabel}
 use Rattle.restructured_text.specs.declared.target.Raw.{Raw}
-use Rattle.restructured_text.specs.Definition.{raw_of}
+use Rattle.restructured_text.specs.Definition.{raw_of, raw_span, is_alias}
+use Rattle.restructured_text.specs.Strings.{part}
 use Rattle.restructured_text.specs.Delimited.{ends_with, backticked_of}
 use Rattle.restructured_text.specs.Inner.{is_refused}
 use Rattle.restructured_text.specs.Label.{label_len_max, simple_label_of}
@@ -99,7 +98,7 @@ ends_at p r i e h =
     ∙ starts-at p (drop (length r - length p) r) i (and_both (leb (length p) (length r)) _ e).1 h
 
 -- No label begins: neither one in backticks nor a word.
-module _ (t : List ℕ) (q : backticked_of false t ≡ Refused) (f : word_labelled t ≡ false) where
+module _ (t : List ℕ) (q : backticked_of false t ≡ None) (f : word_labelled t ≡ false) where
   word_size : length (take (word_of t) t) ≡ word_of t
   word_size = length-take-le (word_of t) t (word-within t)
 
@@ -119,10 +118,10 @@ module _ (t : List ℕ) (q : backticked_of false t ≡ Refused) (f : word_labell
       (λ e i. (leb-false (word_of t) 1000 i, λ j. absurd (false≢true (sym e ∙ eq-eqb _ _ j))))
       (sym z ∙ f)
 
-  no-label : simple_label_of t ≡ NoLabel
+  no-label : simple_label_of t ≡ None
   no-label = two (either (leb 3 (word_of t))) (either (ends_with (0x5F ∷ 0x5F ∷ []) (take (word_of t) t)))
     where
-      one : (word_of t < 3) ⊎ (ends_with (0x5F ∷ 0x5F ∷ []) (take (word_of t) t) ≡ false) → (ends_with (0x5F ∷ []) (take (word_of t) t) ≡ true) ⊎ (ends_with (0x5F ∷ []) (take (word_of t) t) ≡ false) → simple_label_of t ≡ NoLabel
+      one : (word_of t < 3) ⊎ (ends_with (0x5F ∷ 0x5F ∷ []) (take (word_of t) t) ≡ false) → (ends_with (0x5F ∷ []) (take (word_of t) t) ≡ true) ⊎ (ends_with (0x5F ∷ []) (take (word_of t) t) ≡ false) → simple_label_of t ≡ None
       one h (inl e) =
           ⊎_elim
           (λ l.
@@ -132,7 +131,7 @@ module _ (t : List ℕ) (q : backticked_of false t ≡ Refused) (f : word_labell
           (lt-or-le 1 (word_of t))
       one h (inr e) = simple-none t (raw_word t q ∙ word_none t _ (word_of t) refl refl h e)
 
-      two : (leb 3 (word_of t) ≡ true) ⊎ (leb 3 (word_of t) ≡ false) → (ends_with (0x5F ∷ 0x5F ∷ []) (take (word_of t) t) ≡ true) ⊎ (ends_with (0x5F ∷ 0x5F ∷ []) (take (word_of t) t) ≡ false) → simple_label_of t ≡ NoLabel
+      two : (leb 3 (word_of t) ≡ true) ⊎ (leb 3 (word_of t) ≡ false) → (ends_with (0x5F ∷ 0x5F ∷ []) (take (word_of t) t) ≡ true) ⊎ (ends_with (0x5F ∷ 0x5F ∷ []) (take (word_of t) t) ≡ false) → simple_label_of t ≡ None
       two (inl l) (inl e) =
           let g = leb-true 3 (word_of t) l in
           let r = take (word_of t) t in
@@ -143,16 +142,16 @@ module _ (t : List ℕ) (q : backticked_of false t ≡ Refused) (f : word_labell
       two (inr l) e = one (inl (leb-false 3 (word_of t) l)) (either (ends_with (0x5F ∷ []) (take (word_of t) t)))
 
 -- then the target is all of the text
-whole-dead : (t : List ℕ) → simple_label_of t ≡ NoLabel → destination_run t ≡ true → is_dead t ≡ true
+whole-dead : (t : List ℕ) → simple_label_of t ≡ None → destination_run t ≡ true → is_dead t ≡ true
 unfolding is_dead
 whole-dead t e f =
-    ap (λ (l : List ℕ). is_refused (kept_of l)) (raw-all t (raw_of t) refl (ap (λ (y : Raw). y.alias) (raw-is t (raw_of t) refl NoLabel e)))
+    ap (λ (l : List ℕ). is_refused (kept_of l)) (raw-all t (raw_of t) refl (ap is_alias (raw-is t (raw_of t) refl None e)))
     ∙ run-refused t f
 
 -- what refuses it
-pub dead-refused : (v : List ℕ) → is_dead v ≡ true → destination_of (take (raw_of v).len (drop (raw_of v).start v)) ≡ refused (bytes_of (kept_of (take (raw_of v).len (drop (raw_of v).start v))))
+pub dead-refused : (v : List ℕ) → is_dead v ≡ true → destination_of (part (raw_span (raw_of v)) v) ≡ refused (bytes_of (kept_of (part (raw_span (raw_of v)) v)))
 unfolding is_dead
-dead-refused v d = destination-dead (take (raw_of v).len (drop (raw_of v).start v)) d
+dead-refused v d = destination-dead (part (raw_span (raw_of v)) v) d
 
 pub dead-unlabelled : (t : List ℕ) → starts_with (0x60 ∷ []) t ≡ false → word_labelled t ≡ false → destination_run t ≡ true → is_dead t ≡ true
 dead-unlabelled t e f g = whole-dead t (no-label t (delimited-none (0x60 ∷ []) 0x60 0x60 (0x60 ∷ 0x5F ∷ []) t e) f) g
@@ -190,7 +189,7 @@ unfolding is_stop
 stop-one p b = or_self (eqb b p)
 
 module _ (p n b : ℕ) where
-  pub taking-alone : eqb b 0x5C ≡ true → taking p p false n (b ∷ []) ≡ Refused
+  pub taking-alone : eqb b 0x5C ≡ true → taking p p false n (b ∷ []) ≡ None
   unfolding taking
   taking-alone e = picks_first _ _ _ e
 
@@ -199,7 +198,7 @@ module _ (p n b : ℕ) where
     unfolding taking
     taking-byte f = picks_second _ _ _ e ∙ picks_second _ _ _ (stop-one p b ∙ f)
 
-    pub taking-here : eqb b p ≡ true → taking p p false n (b ∷ l) ≡ Taken n
+    pub taking-here : eqb b p ≡ true → taking p p false n (b ∷ l) ≡ Some n
     unfolding taking
     taking-here f = picks_second _ _ _ e ∙ picks_first _ _ _ (stop-one p b ∙ f)
 
@@ -210,13 +209,13 @@ module _ (p n b : ℕ) where
         let z : n + 1 + 1 ≡ n + 2 = omega arith in
         picks_first _ _ _ e ∙ picks_first _ _ _ f ∙ ap (λ (m : ℕ). taking p p false m l) z
 
-    pub taking-wrong : is_escapable c ≡ false → taking p p false n (b ∷ c ∷ l) ≡ Refused
+    pub taking-wrong : is_escapable c ≡ false → taking p p false n (b ∷ c ∷ l) ≡ None
     unfolding taking
     taking-wrong f = picks_first _ _ _ e ∙ picks_second _ _ _ f
 
 -- A label of n bytes, counted from a on, that a backtick closes: the run over it meets a wrong escape.
 label-refused :
-    (r : List ℕ) (a n : ℕ) → taking 0x60 0x60 false a r ≡ Taken (a + n) → starts_with (0x60 ∷ 0x5F ∷ []) (drop n r) ≡ true → label_run r ≡ true
+    (r : List ℕ) (a n : ℕ) → taking 0x60 0x60 false a r ≡ Some (a + n) → starts_with (0x60 ∷ 0x5F ∷ []) (drop n r) ≡ true → label_run r ≡ true
     → is_refused (kept_of (take n r)) ≡ true
 label-refused [] a n e f g = absurd (omega (arith, starts-le (0x60 ∷ 0x5F ∷ []) (drop n []) f, length-drop {A = ℕ} n []))
 label-refused (b ∷ []) a n e f g = absurd (omega (arith, starts-le (0x60 ∷ 0x5F ∷ []) (drop n (b ∷ [])) f, length-drop n (b ∷ [])))
@@ -233,7 +232,7 @@ label-refused (b ∷ c ∷ r) a (suc n) e f g =
     subst⁻¹ (λ (m : ℕ). is_refused (kept_of (take (suc m) (b ∷ c ∷ r))) ≡ true) z
     (⊎_elim
     (λ k. kept_pair b c (take (n - 1) r) i k
-    ∙ label-refused r (a + 2) (n - 1) (sym (taking-pair 0x60 a b c r i j) ∙ e ∙ ap Taken y) (ap (λ (m : ℕ). starts_with (0x60 ∷ 0x5F ∷ []) (drop m (c ∷ r))) (sym z) ∙ f) (sym (run-pair 0x60 (escapable_of false) label_stop true true b c r i k) ∙ g))
+    ∙ label-refused r (a + 2) (n - 1) (sym (taking-pair 0x60 a b c r i j) ∙ e ∙ ap Some y) (ap (λ (m : ℕ). starts_with (0x60 ∷ 0x5F ∷ []) (drop m (c ∷ r))) (sym z) ∙ f) (sym (run-pair 0x60 (escapable_of false) label_stop true true b c r i k) ∙ g))
     (λ k. kept-wrong b c (take (n - 1) r) i k)
     (either (is_destination_escapable c))))
     (λ j. absurd (refused-taken (a + suc n) (sym (taking-wrong 0x60 a b c r i j) ∙ e)))
@@ -243,7 +242,7 @@ label-refused (b ∷ c ∷ r) a (suc n) e f g =
     (λ j.
     let y : a + suc n ≡ a + 1 + n = omega arith in
     kept_byte b (take n (c ∷ r)) i
-    ∙ label-refused (c ∷ r) (a + 1) n (sym (taking-byte 0x60 a b (c ∷ r) i j) ∙ e ∙ ap Taken y) f (sym (run-plain 0x60 (escapable_of false) label_stop true true b (c ∷ r) i j) ∙ g))
+    ∙ label-refused (c ∷ r) (a + 1) n (sym (taking-byte 0x60 a b (c ∷ r) i j) ∙ e ∙ ap Some y) f (sym (run-plain 0x60 (escapable_of false) label_stop true true b (c ∷ r) i j) ∙ g))
     (either (eqb b 0x60)))
     (either (eqb b 0x5C))
 
@@ -252,7 +251,7 @@ pub dead-ticked : (r : List ℕ) → destination_run (0x60 ∷ r) ≡ true → n
 unfolding is_dead
 dead-ticked r e f = go (backticked_of false (0x60 ∷ r)) refl
   where
-    inner : (n : ℕ) → backticked_of false (0x60 ∷ r) ≡ Taken n → n ≤ label_len_max → is_refused (kept_of (take n r)) ≡ true
+    inner : (n : ℕ) → backticked_of false (0x60 ∷ r) ≡ Some n → n ≤ label_len_max → is_refused (kept_of (take n r)) ≡ true
     inner n g m =
         let d = delimited-is (0x60 ∷ []) 0x60 0x60 (0x60 ∷ 0x5F ∷ []) (0x60 ∷ r) n g in
         label-refused r 0 n (taken-from 0x60 0x60 0 r n d.inner) d.ends
@@ -261,14 +260,14 @@ dead-ticked r e f = go (backticked_of false (0x60 ∷ r)) refl
         (λ i. absurd (omega (arith, m, ltb-true label_len_max n (sym (ap is_long g) ∙ i))))
         (or_cases (label_run r) _ f))
 
-    go : (x : Part) → backticked_of false (0x60 ∷ r) ≡ x → is_dead (0x60 ∷ r) ≡ true
-    go Refused g = whole-dead (0x60 ∷ r) (no-label (0x60 ∷ r) g (word-tick r)) e
-    go (Taken n) g =
+    go : (x : Option ℕ) → backticked_of false (0x60 ∷ r) ≡ x → is_dead (0x60 ∷ r) ≡ true
+    go None g = whole-dead (0x60 ∷ r) (no-label (0x60 ∷ r) g (word-tick r)) e
+    go (Some n) g =
         ⊎_elim
         (λ l. ⊎_elim
         (λ m. whole-dead (0x60 ∷ r) (simple-long (0x60 ∷ r) _ _ (raw-quoted (0x60 ∷ r) n g) m) e)
         (λ m.
-        ap (λ (y : Raw). is_refused (kept_of (take y.len (drop y.start (0x60 ∷ r)))))
+        ap (λ (y : Raw). is_refused (kept_of (part (raw_span y) (0x60 ∷ r))))
         (raw-is (0x60 ∷ r) (raw_of (0x60 ∷ r)) refl _ (simple-named (0x60 ∷ r) _ _ (raw-quoted (0x60 ∷ r) n g) (λ z. omega (arith, z, l)) m))
         ∙ inner n g m)
         (lt-or-le label_len_max n))

@@ -1,6 +1,7 @@
 -- How many bytes a label has up to the backtick that closes it. Each byte of the line is one more, an escape two; over a line's end it is a space more, and
 -- the indent and three spaces, which the text leaves out, count once more.
 -- Assumes nothing.
+use Rattle.std.proofs.Common.{Option, Some, None}
 use Prim.Native.Nat.{ℕ, zero, suc, ◌+◌, ◌-◌, ◌*◌, ◌/◌, ◌<◌, ◌≤◌}
 use native.Mathlib.Omega.{arith}
 use native.Mathlib.Nat.{suc-mul, zero-mul, mul_comm, le-div_iff_mul-le}
@@ -13,14 +14,10 @@ use borrow.Author.Tests.{eq-eqb, ne_eqb, lt-ltb}
 use Rattle.rst_bytes.specs.Escaped.{is_escapable, taking}
 use Rattle.rst_bytes.specs.Line.{not_line_ending_of}
 use Rattle.rst_bytes.specs.Tag.{starts_with}
-use Rattle.rst_bytes.specs.declared.Part.{Part}
-use Rattle.rst_bytes.specs.declared.Part.TheVariants.{Taken, Refused}
 use Rattle.rst_bytes.proofs.Lists.{drop-next, drop-last}
 use Rattle.rst_bytes.proofs.EscapedLaws.{refused-taken, taken_is, taken-from, taken-later, taken_back}
 use Rattle.rst_bytes.proofs.TagLaws.{starts-append}
 use Rattle.rst_bytes.proofs.LineLaws.{ending-none, not-line-ending-le}
-use Rattle.restructured_text.specs.declared.block.Line.{Line}
-use Rattle.restructured_text.specs.declared.block.Line.TheVariants.{Further, End}
 use Rattle.restructured_text.specs.Block.{three, further_of}
 use Rattle.restructured_text.specs.Delimited.{backticked_of}
 use Rattle.restructured_text.specs.Label.{label_len_max}
@@ -81,7 +78,7 @@ module _ (z : Size) (m : ℕ) where
       let y : k ≡ suc (suc (k - 2)) = omega (arith, w.0) in
       let x : 1 + (k - 2) ≡ suc (k - 2) = omega arith in
       let u =
-      t (suc (k - 2)) (taking-byte 0x60 0 0x20 r refl refl ∙ taken-later 0x60 0x60 1 r (k - 2) w.1 ∙ ap Taken x)
+      t (suc (k - 2)) (taking-byte 0x60 0 0x20 r refl refl ∙ taken-later 0x60 0x60 1 r (k - 2) w.1 ∙ ap Some x)
       (ap (λ (n : ℕ). starts_with (0x60 ∷ []) (drop n (b ∷ 0x20 ∷ r))) (sym y) ∙ f) in
       omega (arith, w.0, u)
 
@@ -177,25 +174,25 @@ module _ (s : List ℕ) (i : ℕ) (h : i < length s) (z : Size) where
             subst⁻¹ (SizeOf (more z 1) (length indent + 3)) w.2 (go indent w.0 w.1 (t.2 indent w.0 blank w.1)),
       )
         where
-          go : (indent : List ℕ) (k : ℕ) → not_line_ending_of (drop (i + 1) s) ≡ Taken k → SizeOf z (length indent + 3) (joined_of indent k (drop (i + 1) s)) → SizeOf (more z 1) (length indent + 3) (get_or s i 0 ∷ joined_of indent k (drop (i + 1) s))
+          go : (indent : List ℕ) (k : ℕ) → not_line_ending_of (drop (i + 1) s) ≡ Some k → SizeOf z (length indent + 3) (joined_of indent k (drop (i + 1) s)) → SizeOf (more z 1) (length indent + 3) (get_or s i 0 ∷ joined_of indent k (drop (i + 1) s))
           go indent k j u =
               let y : k ≡ 0 = line-stops (get_or s (i + 1) 0) (drop (i + 1 + 1) s) k e (ap (λ (x : List ℕ). not_line_ending_of x) (sym (drop-next s (i + 1) l)) ∙ j) in
               more-line (further_of indent (drop (i + 1) s)) refl (subst (λ (x : ℕ). SizeOf z (length indent + 3) (joined_of indent x (drop (i + 1) s))) y u) y
             where
               more-line :
-                  (x : Line) → further_of indent (drop (i + 1) s) ≡ x → SizeOf z (length indent + 3) (joined_of indent 0 (drop (i + 1) s)) → k ≡ 0
+                  (x : Option (ℕ × ℕ)) → further_of indent (drop (i + 1) s) ≡ x → SizeOf z (length indent + 3) (joined_of indent 0 (drop (i + 1) s)) → k ≡ 0
                   → SizeOf (more z 1) (length indent + 3) (get_or s i 0 ∷ joined_of indent k (drop (i + 1) s))
-              more-line (Further a m) g v y =
+              more-line (Some (a, m)) g v y =
                   let o = text-further indent (drop (i + 1) s) a m g in
                   subst⁻¹ (λ (x : ℕ). SizeOf (more z 1) (length indent + 3) (get_or s i 0 ∷ joined_of indent x (drop (i + 1) s))) y
                   (subst⁻¹ (λ (x : List ℕ). SizeOf (more z 1) (length indent + 3) (get_or s i 0 ∷ x)) o (size-spaced z (length indent + 3) (get_or s i 0) (joined_of indent m (drop a (drop (i + 1) s))) (eq-eqb _ _ f) (subst (SizeOf z (length indent + 3)) o v)))
-              more-line End g v y =
+              more-line None g v y =
                   subst⁻¹ (λ (x : ℕ). SizeOf (more z 1) (length indent + 3) (get_or s i 0 ∷ joined_of indent x (drop (i + 1) s))) y
                   (subst⁻¹ (λ (x : List ℕ). SizeOf (more z 1) (length indent + 3) (get_or s i 0 ∷ x)) (text-end indent (drop (i + 1) s) g) (size-alone (more z 1) (length indent + 3) (get_or s i 0) (eq-eqb _ _ f)))
 
       -- before another byte
       module _ (e : ends_line (get_or s (i + 1) 0) ≡ false) where
-        two : (indent : List ℕ) (n : ℕ) → not_line_ending_of (drop i s) ≡ Taken n → (m : ℕ) × (not_line_ending_of (drop (i + 2) s) ≡ Taken m) × (joined_of indent n (drop i s) ≡ get_or s i 0 ∷ get_or s (i + 1) 0 ∷ joined_of indent m (drop (i + 2) s))
+        two : (indent : List ℕ) (n : ℕ) → not_line_ending_of (drop i s) ≡ Some n → (m : ℕ) × (not_line_ending_of (drop (i + 2) s) ≡ Some m) × (joined_of indent n (drop i s) ≡ get_or s i 0 ∷ get_or s (i + 1) 0 ∷ joined_of indent m (drop (i + 2) s))
         two indent n j =
             let o : i + 1 + 1 ≡ i + 2 = omega arith in
             let w = text-byte indent s i n h (ap ends_line f) j in
@@ -221,7 +218,7 @@ module _ (s : List ℕ) (i : ℕ) (h : i < length s) (z : Size) where
         )
 
   -- LF
-  pub sized-lf : get_or s i 0 ≡ 10 → (m : ℕ) → not_line_ending_of (drop (i + 1) s) ≡ Taken m → Sized z (drop (i + 1) s) → Sized (ended z) (drop i s)
+  pub sized-lf : get_or s i 0 ≡ 10 → (m : ℕ) → not_line_ending_of (drop (i + 1) s) ≡ Some m → Sized z (drop (i + 1) s) → Sized (ended z) (drop i s)
   sized-lf f m line t = (
     omega (arith, t.0, length-drop i s, length-drop (i + 1) s, h),
     omega (arith, t.1, length-drop i s, length-drop (i + 1) s, h),
@@ -258,7 +255,7 @@ sized-cr s i h e f z t = (
 )
 
 -- where no further line can follow
-pub sized-none : (s : List ℕ) → not_line_ending_of s ≡ Taken 0 → ((indent : List ℕ) → Blank indent → further_of indent s ≡ End) → Sized none s
+pub sized-none : (s : List ℕ) → not_line_ending_of s ≡ Some 0 → ((indent : List ℕ) → Blank indent → further_of indent s ≡ None) → Sized none s
 sized-none s h g = (
   omega arith,
   omega arith,
@@ -268,7 +265,7 @@ sized-none s h g = (
 )
 
 -- a line that is refused
-pub sized-refused : (s : List ℕ) (z : Size) → z.kept ≤ length s → z.ends ≤ length s → not_line_ending_of s ≡ Refused → Sized z s
+pub sized-refused : (s : List ℕ) (z : Size) → z.kept ≤ length s → z.ends ≤ length s → not_line_ending_of s ≡ None → Sized z s
 sized-refused s z a b h = (a, b, λ indent n blank j. absurd (refused-taken n (sym h ∙ j)))
 
 -- Labels behind a backtick.
@@ -279,18 +276,18 @@ module _ (s : List ℕ) (label : Verdict) (z : Size) (t : Tells label_run label 
 
   -- it is too long
   long-text :
-      (indent : List ℕ) (n : ℕ) → Blank indent → not_line_ending_of s ≡ Taken n → z.ends * (length indent + 3) + 1000 ≤ z.kept
+      (indent : List ℕ) (n : ℕ) → Blank indent → not_line_ending_of s ≡ Some n → z.ends * (length indent + 3) + 1000 ≤ z.kept
       → is_long (backticked_of false (0x60 ∷ joined_of indent n s)) ≡ true
   long-text indent n blank e h = go (backticked_of false (0x60 ∷ joined_of indent n s)) refl
     where
-      go : (x : Part) → backticked_of false (0x60 ∷ joined_of indent n s) ≡ x → is_long x ≡ true
-      go (Taken k) g =
+      go : (x : Option ℕ) → backticked_of false (0x60 ∷ joined_of indent n s) ≡ x → is_long x ≡ true
+      go (Some k) g =
           let r = joined_of indent n s in
           let d = delimited-is (0x60 ∷ []) 0x60 0x60 (0x60 ∷ 0x5F ∷ []) (0x60 ∷ r) k g in
           let o : 0 + k ≡ k = omega arith in
-          let w = q.2 indent n blank e k (taken-from 0x60 0x60 0 r k d.inner ∙ ap Taken o) (and_both _ _ (sym (starts-append (0x60 ∷ []) (0x5F ∷ []) (drop k r)) ∙ d.ends)).0 in
+          let w = q.2 indent n blank e k (taken-from 0x60 0x60 0 r k d.inner ∙ ap Some o) (and_both _ _ (sym (starts-append (0x60 ∷ []) (0x5F ∷ []) (drop k r)) ∙ d.ends)).0 in
           lt-ltb label_len_max k (omega (arith, h, w))
-      go Refused g = refl
+      go None g = refl
 
   -- for each indent
   pub label-everywhere : z.ends ≡ 0 → 1000 ≤ z.kept → (v : Verdict) → Tells no_label v s

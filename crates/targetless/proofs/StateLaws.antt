@@ -1,6 +1,7 @@
 -- The verdicts of a state at a byte of a line, by those at the next places: a byte that is no stop of a run and no backslash is passed; at a stop it
 -- is the first bytes of the text that say it, and these are those of the line, or where the line ends a space or nothing.
 -- Assumes nothing.
+use Rattle.std.proofs.Common.{Option, Some, None}
 use Prim.Native.Nat.{ℕ, ◌+◌, ◌<◌, ◌≤◌}
 use native.Mathlib.Omega.{arith}
 use mathlib.Core.Path.{◌≡◌, refl, sym, ap, subst⁻¹, ◌∙◌}
@@ -12,14 +13,11 @@ use lib.ListN.{length, get_or, drop, length-drop, get_or-eq_default}
 use borrow.Author.Tests.{eq-eqb, ne_eqb, eqb-true}
 use Rattle.rst_bytes.specs.Line.{line_from, not_line_ending_of}
 use Rattle.rst_bytes.specs.Tag.{starts_with}
-use Rattle.rst_bytes.specs.declared.Part.TheVariants.{Taken}
 use Rattle.rst_bytes.proofs.Lists.{drop-next, drop-two, drop-end, part-from}
 use Rattle.rst_bytes.proofs.TagLaws.{starts-le}
 use Rattle.rst_bytes.proofs.TestLaws.{picks_first, picks_second, by-test, lt-or-le}
 use Rattle.rst_bytes.proofs.EscapedLaws.{taken_is}
 use Rattle.restructured_text.specs.Block.{further_of, lines_of}
-use Rattle.restructured_text.specs.declared.block.Line.{Line}
-use Rattle.restructured_text.specs.declared.block.Line.TheVariants.{Further, End}
 use Rattle.restructured_text.proofs.BlockLaws.{from}
 use Rattle.restructured_text.specs.Transform.{is_destination_escapable}
 use Rattle.rst_bytes.specs.Escaped.{is_escapable}
@@ -36,7 +34,7 @@ not-lf : (b : ℕ) → ends_line b ≡ false → b ≡ 10 → ⊥
 not-lf b e f = absurd (true≢false (sym (rw f refl) ∙ e))
 
 -- Nothing stands from the end of s on.
-text-none : (indent s : List ℕ) (i n : ℕ) → length s ≤ i → not_line_ending_of (drop i s) ≡ Taken n → joined_of indent n (drop i s) ≡ []
+text-none : (indent s : List ℕ) (i n : ℕ) → length s ≤ i → not_line_ending_of (drop i s) ≡ Some n → joined_of indent n (drop i s) ≡ []
 unfolding line_from lines_of
 text-none indent s i n h e =
     let d = drop-end s i h in
@@ -48,12 +46,12 @@ ends-within : (s : List ℕ) (i : ℕ) → ends_line (get_or s i 0) ≡ true →
 ends-within s i e = ⊎_elim (λ h. h) (λ h. absurd (false≢true (sym (ap ends_line (get_or-eq_default s 0 h)) ∙ e))) (lt-or-le i (length s))
 
 -- the text that begins there
-module _ (indent s : List ℕ) (i n : ℕ) (e : ends_line (get_or s i 0) ≡ true) (t : not_line_ending_of (drop i s) ≡ Taken n) where
+module _ (indent s : List ℕ) (i n : ℕ) (e : ends_line (get_or s i 0) ≡ true) (t : not_line_ending_of (drop i s) ≡ Some n) where
   pub ends-here : n ≡ 0
   ends-here = let h = ends-within s i e in line-stops (get_or s i 0) (drop (i + 1) s) n e (ap (line_from 0) (sym (drop-next s i h)) ∙ t)
 
   -- where no further line follows
-  pub text-alone : further_of indent (drop n (drop i s)) ≡ End → joined_of indent n (drop i s) ≡ []
+  pub text-alone : further_of indent (drop n (drop i s)) ≡ None → joined_of indent n (drop i s) ≡ []
   text-alone f =
       ap (λ (m : ℕ). joined_of indent m (drop i s)) ends-here ∙ text-end indent (drop i s) (ap (λ (m : ℕ). further_of indent (drop m (drop i s))) (sym ends-here) ∙ f)
 
@@ -64,9 +62,9 @@ module _ (indent s : List ℕ) (i n : ℕ) (e : ends_line (get_or s i 0) ≡ tru
       none : joined_of indent n (drop i s) ≡ joined_of indent 0 (drop i s)
       none = ap (λ (m : ℕ). joined_of indent m (drop i s)) ends-here
 
-      go : (x : Line) → further_of indent (drop i s) ≡ x → (joined_of indent n (drop i s) ≡ []) ⊎ ((l : List ℕ) × (joined_of indent n (drop i s) ≡ 0x20 ∷ l))
-      go (Further a m) f = inr (joined_of indent m (drop a (drop i s)), none ∙ text-further indent (drop i s) a m f)
-      go End f = inl (none ∙ text-end indent (drop i s) f)
+      go : (x : Option (ℕ × ℕ)) → further_of indent (drop i s) ≡ x → (joined_of indent n (drop i s) ≡ []) ⊎ ((l : List ℕ) × (joined_of indent n (drop i s) ≡ 0x20 ∷ l))
+      go (Some (a, m)) f = inr (joined_of indent m (drop a (drop i s)), none ∙ text-further indent (drop i s) a m f)
+      go None f = inl (none ∙ text-end indent (drop i s) f)
 
 -- one byte at the front
 pub starts-one : (c b : ℕ) (r : List ℕ) → starts_with (c ∷ []) (b ∷ r) ≡ eqb b c
@@ -75,7 +73,7 @@ starts-one c b r = by-test (λ x. x ≡ eqb b c) (eqb b c) _ _ (λ e. sym e) (λ
 
 -- With a byte that is no space a text begins only if the line does.
 pub first_byte_lem :
-    (indent s : List ℕ) (i n c : ℕ) → (c ≡ 0x20 → ⊥) → not_line_ending_of (drop i s) ≡ Taken n → starts_with (c ∷ []) (drop i s) ≡ false
+    (indent s : List ℕ) (i n c : ℕ) → (c ≡ 0x20 → ⊥) → not_line_ending_of (drop i s) ≡ Some n → starts_with (c ∷ []) (drop i s) ≡ false
     → starts_with (c ∷ []) (joined_of indent n (drop i s)) ≡ false
 unfolding starts_with
 first_byte_lem indent s i n c f e k = go (ends_line (get_or s i 0)) refl
@@ -168,7 +166,7 @@ module _ (s : List ℕ) (i : ℕ) (h : i < length s) where
 
   module _ (e : ends_line (get_or s i 0) ≡ false) where
     -- a text begins with the line's byte
-    begins : (indent : List ℕ) (n : ℕ) → not_line_ending_of (drop i s) ≡ Taken n → (r : List ℕ) × (m : ℕ) × (not_line_ending_of (drop (i + 1) s) ≡ Taken m) × (r ≡ joined_of indent m (drop (i + 1) s)) × (joined_of indent n (drop i s) ≡ get_or s i 0 ∷ r)
+    begins : (indent : List ℕ) (n : ℕ) → not_line_ending_of (drop i s) ≡ Some n → (r : List ℕ) × (m : ℕ) × (not_line_ending_of (drop (i + 1) s) ≡ Some m) × (r ≡ joined_of indent m (drop (i + 1) s)) × (joined_of indent n (drop i s) ≡ get_or s i 0 ∷ r)
     begins indent n t =
         let z = text-byte indent s i n h e t in
         (joined_of indent z.0 (drop (i + 1) s), z.0, z.1, refl, z.2)
@@ -193,7 +191,7 @@ module _ (s : List ℕ) (i : ℕ) (h : i < length s) where
         go j w false z = absurd (false≢true (sym (picks_second (eqb (get_or s (i + 1) 0) c) _ _ z) ∙ w))
 
     -- and a text begins with both
-    pub two : (indent : List ℕ) (n c : ℕ) → not_line_ending_of (drop i s) ≡ Taken n → i + 1 < length s → get_or s (i + 1) 0 ≡ c → ends_line c ≡ false → (m : ℕ) × (not_line_ending_of (drop (i + 2) s) ≡ Taken m) × (joined_of indent n (drop i s) ≡ get_or s i 0 ∷ c ∷ joined_of indent m (drop (i + 2) s))
+    pub two : (indent : List ℕ) (n c : ℕ) → not_line_ending_of (drop i s) ≡ Some n → i + 1 < length s → get_or s (i + 1) 0 ≡ c → ends_line c ≡ false → (m : ℕ) × (not_line_ending_of (drop (i + 2) s) ≡ Some m) × (joined_of indent n (drop i s) ≡ get_or s i 0 ∷ c ∷ joined_of indent m (drop (i + 2) s))
     two indent n c t j g q =
         let z = text-byte indent s i n h e t in
         let y = text-byte indent s (i + 1) z.0 j (ap ends_line g ∙ q) z.1 in

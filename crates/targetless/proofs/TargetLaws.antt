@@ -1,6 +1,7 @@
 -- Blocks that are no targets. Behind blanks up to a header the indent is these blanks, since the header begins with none; so the block's text is
 -- that of `joined_of`, or there is no block where the header's line is refused.
 -- Assumes nothing.
+use Rattle.std.proofs.Common.{Option, Some, None}
 use Prim.Native.Nat.{ℕ, zero, suc, ◌+◌, ◌-◌, ◌<◌, ◌≤◌}
 use native.Mathlib.Omega.{arith}
 use mathlib.Core.Path.{◌≡◌, refl, sym, ap, ◌∙◌}
@@ -12,8 +13,6 @@ use lib.Seq.{length-take-le, get_or-take, get_or-drop, drop-drop}
 use borrow.Author.Tests.{ne_eqb}
 use Rattle.rst_bytes.specs.Line.{bytes_from, line_from, not_line_ending_of, is_space, space0_of}
 use Rattle.rst_bytes.specs.Tag.{starts_with}
-use Rattle.rst_bytes.specs.declared.Part.{Part}
-use Rattle.rst_bytes.specs.declared.Part.TheVariants.{Taken, Refused}
 use Rattle.rst_bytes.proofs.Lists.{part-from}
 use Rattle.rst_bytes.proofs.TestLaws.{picks_first, picks_second}
 use Rattle.rst_bytes.proofs.LineLaws.{bytes_count}
@@ -108,27 +107,27 @@ module _ (s : List ℕ) (k h : ℕ) (w : Indented k h s) where
     size_of n = h - k + 3 + n + (lines_of (take (space0_of (drop k s)) (drop k s)) 0 (drop n (drop (h - k + 3) (drop k s)))).read
 
     block_here :
-        (header : List ℕ) (n : ℕ) → length header ≡ 3 → starts_with header (drop h s) ≡ true → not_line_ending_of (drop (h + 3) s) ≡ Taken n
+        (header : List ℕ) (n : ℕ) → length header ≡ 3 → starts_with header (drop h s) ≡ true → not_line_ending_of (drop (h + 3) s) ≡ Some n
         → block_of header (drop k s) ≡ block (joined_of (take (h - k) (drop k s)) n (drop (h + 3) s)) (size_of n)
     block_here header n g e f =
-        block-taken header (drop k s) (h - k + 3) (start-taken (drop k s) (h - k) (sym is) header (header-here header true e) ∙ ap (λ (i : ℕ). Taken (h - k + i)) g) n (ap (line_from 0) line-behind ∙ f)
+        block-taken header (drop k s) (h - k + 3) (start-taken (drop k s) (h - k) (sym is) header (header-here header true e) ∙ ap (λ (i : ℕ). Some (h - k + i)) g) n (ap (line_from 0) line-behind ∙ f)
         ∙ ap (λ (l : List ℕ). block l (size_of n))
         (ap (λ (l : List ℕ). take n l ++ (lines_of (take (space0_of (drop k s)) (drop k s)) 0 (drop n l)).text) line-behind
         ∙ ap (λ (j : ℕ). take n (drop (h + 3) s) ++ (lines_of (take j (drop k s)) 0 (drop n (drop (h + 3) s))).text) is)
 
     -- where the header's line is refused there is none
-    block-broken : (header : List ℕ) → length header ≡ 3 → not_line_ending_of (drop (h + 3) s) ≡ Refused → block_of header (drop k s) ≡ no_block
+    block-broken : (header : List ℕ) → length header ≡ 3 → not_line_ending_of (drop (h + 3) s) ≡ None → block_of header (drop k s) ≡ no_block
     block-broken header g f = go (start_of header (drop k s)) refl
       where
-        go : (x : Part) → start_of header (drop k s) ≡ x → block_of header (drop k s) ≡ no_block
-        go (Taken b) e =
+        go : (x : Option ℕ) → start_of header (drop k s) ≡ x → block_of header (drop k s) ≡ no_block
+        go (Some b) e =
             let z : b ≡ h - k + 3 = omega (arith, start_is header (drop k s) b e, is, g) in
             block-no-line header (drop k s) b e (ap (λ (j : ℕ). not_line_ending_of (drop j (drop k s))) z ∙ ap (line_from 0) line-behind ∙ f)
-        go Refused e = block_none header (drop k s) e
+        go None e = block_none header (drop k s) e
 
 -- a `__ ` block whose target is refused
 pub no-target-dead :
-    (s : List ℕ) (k h n : ℕ) → Indented k h s → starts_with (0x5F ∷ 0x5F ∷ 0x20 ∷ []) (drop h s) ≡ true → not_line_ending_of (drop (h + 3) s) ≡ Taken n
+    (s : List ℕ) (k h n : ℕ) → Indented k h s → starts_with (0x5F ∷ 0x5F ∷ 0x20 ∷ []) (drop h s) ≡ true → not_line_ending_of (drop (h + 3) s) ≡ Some n
     → is_dead (joined_of (take (h - k) (drop k s)) n (drop (h + 3) s)) ≡ true → NoTarget (drop k s)
 unfolding is_space
 no-target-dead s k h n w e f g label =
@@ -140,7 +139,7 @@ no-target-dead s k h n w e f g label =
 
 -- a `.. ` block that has no name with a target
 pub no-target-unnamed :
-    (s : List ℕ) (k h n : ℕ) → Indented k h s → starts_with (0x2E ∷ 0x2E ∷ 0x20 ∷ []) (drop h s) ≡ true → not_line_ending_of (drop (h + 3) s) ≡ Taken n
+    (s : List ℕ) (k h n : ℕ) → Indented k h s → starts_with (0x2E ∷ 0x2E ∷ 0x20 ∷ []) (drop h s) ≡ true → not_line_ending_of (drop (h + 3) s) ≡ Some n
     → Unnamed (joined_of (take (h - k) (drop k s)) n (drop (h + 3) s)) → NoTarget (drop k s)
 unfolding is_space
 no-target-unnamed s k h n w e f g label =
@@ -148,7 +147,7 @@ no-target-unnamed s k h n w e f g label =
     target-dots label (drop k s) _ _ (block_here s k h w is dots n refl e f) ∙ g label _
 
 -- a block whose first line is refused
-pub no-target-refused : (s : List ℕ) (k h : ℕ) → Indented k h s → Headed (drop h s) → not_line_ending_of (drop (h + 3) s) ≡ Refused → NoTarget (drop k s)
+pub no-target-refused : (s : List ℕ) (k h : ℕ) → Indented k h s → Headed (drop h s) → not_line_ending_of (drop (h + 3) s) ≡ None → NoTarget (drop k s)
 unfolding is_space
 no-target-refused s k h w e f label =
     let is : space0_of (drop k s) ≡ h - k = ⊎_elim (λ i. header-indent s k h w strokes (omega arith) refl i) (λ i. header-indent s k h w (0x2E ∷ 0x2E ∷ 0x20 ∷ 0x5F ∷ []) (omega arith) refl i) e in

@@ -1,6 +1,7 @@
 -- The texts of blocks from a place on: one byte more in front of a line is one byte more in front of the text; at a line's end the text goes on
 -- with a space behind the bytes that are cut, and CR LF ends a line as LF does. Each goes by the first bytes.
 -- Assumes nothing.
+use Rattle.std.proofs.Common.{Option, Some, None}
 use Prim.Native.Nat.{ℕ, suc, ◌+◌, ◌<◌, ◌≤◌}
 use native.Mathlib.Omega.{arith}
 use mathlib.Core.Path.{◌≡◌, refl, sym, ap, ◌∙◌}
@@ -12,23 +13,19 @@ use lib.Seq.{drop-drop}
 use borrow.Author.Tests.{ne_eqb}
 use Rattle.rst_bytes.specs.Line.{starts_lf, line_from, line_ending_of, not_line_ending_of}
 use Rattle.rst_bytes.specs.Tag.{starts_with}
-use Rattle.rst_bytes.specs.declared.Part.{Part}
-use Rattle.rst_bytes.specs.declared.Part.TheVariants.{Taken, Refused}
 use Rattle.rst_bytes.proofs.Lists.{drop-next, drop-two, drop-last}
 use Rattle.rst_bytes.proofs.TestLaws.{by-test, by-test₂, neither}
 use Rattle.rst_bytes.proofs.EscapedLaws.{refused-taken, taken_is}
 use Rattle.rst_bytes.proofs.LineLaws.{ending-lf, ending-crlf}
 use Rattle.rst_bytes.proofs.TagLaws.{starts-append}
-use Rattle.restructured_text.specs.declared.block.Line.{Line}
-use Rattle.restructured_text.specs.declared.block.Line.TheVariants.{Further, End}
 use Rattle.restructured_text.specs.Block.{three, cut_of, line_at, further_of, Joining, lines_of}
 use Rattle.restructured_text.proofs.BlockLaws.{cut-none, further-none, lines_end, lines-further}
 use Rattle.targetless.specs.Verdict.{joined_of, is_further, ends_line}
 
 -- what is taken, with k bytes before it
-abbrev later : ℕ → Part → Part
-later k (Taken n) = Taken (k + n)
-later k Refused = Refused
+abbrev later : ℕ → Option ℕ → Option ℕ
+later k (Some n) = Some (k + n)
+later k None = None
 
 line-later : (k : ℕ) (l : List ℕ) (n : ℕ) → line_from (k + n) l ≡ later k (line_from n l)
 unfolding line_from
@@ -53,31 +50,31 @@ module _ (b : ℕ) (l : List ℕ) (e : ends_line b ≡ false) where
       let w = neither (eqb b 10) (eqb b 13) e in
       rw (w.0, w.1, line_from) (line-later 1 l 0)
 
-  line_refused : not_line_ending_of l ≡ Refused → not_line_ending_of (b ∷ l) ≡ Refused
+  line_refused : not_line_ending_of l ≡ None → not_line_ending_of (b ∷ l) ≡ None
   line_refused f = line-more ∙ ap (later 1) f
 
-  pub line_taken : (m : ℕ) → not_line_ending_of l ≡ Taken m → not_line_ending_of (b ∷ l) ≡ Taken (1 + m)
+  pub line_taken : (m : ℕ) → not_line_ending_of l ≡ Some m → not_line_ending_of (b ∷ l) ≡ Some (1 + m)
   line_taken m f = line-more ∙ ap (later 1) f
 
   -- the line behind it
-  pub line-behind : (n : ℕ) → not_line_ending_of (b ∷ l) ≡ Taken n → (m : ℕ) × (not_line_ending_of l ≡ Taken m) × (n ≡ suc m)
+  pub line-behind : (n : ℕ) → not_line_ending_of (b ∷ l) ≡ Some n → (m : ℕ) × (not_line_ending_of l ≡ Some m) × (n ≡ suc m)
   line-behind n f = go (not_line_ending_of l) refl
     where
-      go : (r : Part) → not_line_ending_of l ≡ r → (m : ℕ) × (not_line_ending_of l ≡ Taken m) × (n ≡ suc m)
-      go (Taken m) g = (m, g, omega (arith, taken_is n (1 + m) (sym f ∙ line-more ∙ ap (later 1) g)))
-      go Refused g = absurd (refused-taken n (sym (line_refused g) ∙ f))
+      go : (r : Option ℕ) → not_line_ending_of l ≡ r → (m : ℕ) × (not_line_ending_of l ≡ Some m) × (n ≡ suc m)
+      go (Some m) g = (m, g, omega (arith, taken_is n (1 + m) (sym f ∙ line-more ∙ ap (later 1) g)))
+      go None g = absurd (refused-taken n (sym (line_refused g) ∙ f))
 
-  pub line-behind-refused : not_line_ending_of (b ∷ l) ≡ Refused → not_line_ending_of l ≡ Refused
+  pub line-behind-refused : not_line_ending_of (b ∷ l) ≡ None → not_line_ending_of l ≡ None
   line-behind-refused f = go (not_line_ending_of l) refl
     where
-      go : (r : Part) → not_line_ending_of l ≡ r → not_line_ending_of l ≡ Refused
-      go (Taken m) g = absurd (refused-taken (1 + m) (sym f ∙ line-more ∙ ap (later 1) g))
-      go Refused g = g
+      go : (r : Option ℕ) → not_line_ending_of l ≡ r → not_line_ending_of l ≡ None
+      go (Some m) g = absurd (refused-taken (1 + m) (sym f ∙ line-more ∙ ap (later 1) g))
+      go None g = g
 
 -- The same at a place of a text.
 pub text-byte :
-    (indent s : List ℕ) (i n : ℕ) → i < length s → ends_line (get_or s i 0) ≡ false → not_line_ending_of (drop i s) ≡ Taken n
-    → (m : ℕ) × (not_line_ending_of (drop (i + 1) s) ≡ Taken m) × (joined_of indent n (drop i s) ≡ get_or s i 0 ∷ joined_of indent m (drop (i + 1) s))
+    (indent s : List ℕ) (i n : ℕ) → i < length s → ends_line (get_or s i 0) ≡ false → not_line_ending_of (drop i s) ≡ Some n
+    → (m : ℕ) × (not_line_ending_of (drop (i + 1) s) ≡ Some m) × (joined_of indent n (drop i s) ≡ get_or s i 0 ∷ joined_of indent m (drop (i + 1) s))
     × (drop n (drop i s) ≡ drop m (drop (i + 1) s))
 text-byte indent s i n h e f =
     let z = drop-next s i h in
@@ -89,48 +86,48 @@ text-byte indent s i n h e f =
     )
 
 -- A line that is refused.
-pub broken-byte : (s : List ℕ) (i : ℕ) → i < length s → ends_line (get_or s i 0) ≡ false → not_line_ending_of (drop (i + 1) s) ≡ Refused → not_line_ending_of (drop i s) ≡ Refused
+pub broken-byte : (s : List ℕ) (i : ℕ) → i < length s → ends_line (get_or s i 0) ≡ false → not_line_ending_of (drop (i + 1) s) ≡ None → not_line_ending_of (drop i s) ≡ None
 broken-byte s i h e f = rw (drop-next s i h) (line_refused (get_or s i 0) (drop (i + 1) s) e f)
 
 -- one that is not
-pub taken-byte : (s : List ℕ) (i m : ℕ) → i < length s → ends_line (get_or s i 0) ≡ false → not_line_ending_of (drop (i + 1) s) ≡ Taken m → not_line_ending_of (drop i s) ≡ Taken (1 + m)
+pub taken-byte : (s : List ℕ) (i m : ℕ) → i < length s → ends_line (get_or s i 0) ≡ false → not_line_ending_of (drop (i + 1) s) ≡ Some m → not_line_ending_of (drop i s) ≡ Some (1 + m)
 taken-byte s i m h e f = ap (λ (l : List ℕ). not_line_ending_of l) (drop-next s i h) ∙ line_taken (get_or s i 0) (drop (i + 1) s) e m f
 
 -- CR that no LF follows: it is the last byte
-pub broken-last : (s : List ℕ) (i : ℕ) → i < length s → get_or s i 0 ≡ 13 → length s ≤ i + 1 → not_line_ending_of (drop i s) ≡ Refused
+pub broken-last : (s : List ℕ) (i : ℕ) → i < length s → get_or s i 0 ≡ 13 → length s ≤ i + 1 → not_line_ending_of (drop i s) ≡ None
 unfolding line_from
 broken-last s i h e l = rw (drop-last s i h l, e) refl
 
 -- or another byte stands behind it
-pub broken-cr : (s : List ℕ) (i : ℕ) → i + 1 < length s → get_or s i 0 ≡ 13 → (get_or s (i + 1) 0 ≡ 10 → ⊥) → not_line_ending_of (drop i s) ≡ Refused
+pub broken-cr : (s : List ℕ) (i : ℕ) → i + 1 < length s → get_or s i 0 ≡ 13 → (get_or s (i + 1) 0 ≡ 10 → ⊥) → not_line_ending_of (drop i s) ≡ None
 unfolding line_from
 broken-cr s i h e f = rw (drop-two s i h, e) (rw (ne_eqb _ _ f, line_from) refl)
 
 -- At a line's end.
-pub line-here : (l : List ℕ) → not_line_ending_of (10 ∷ l) ≡ Taken 0
+pub line-here : (l : List ℕ) → not_line_ending_of (10 ∷ l) ≡ Some 0
 unfolding line_from
 line-here l = refl
 
-pub taken-lf : (s : List ℕ) (i : ℕ) → i < length s → get_or s i 0 ≡ 10 → not_line_ending_of (drop i s) ≡ Taken 0
+pub taken-lf : (s : List ℕ) (i : ℕ) → i < length s → get_or s i 0 ≡ 10 → not_line_ending_of (drop i s) ≡ Some 0
 taken-lf s i h e = rw (drop-next s i h, e) (line-here (drop (i + 1) s))
 
 -- a byte that ends a line, if it is not refused
-pub line-stops : (b : ℕ) (l : List ℕ) (n : ℕ) → ends_line b ≡ true → not_line_ending_of (b ∷ l) ≡ Taken n → n ≡ 0
+pub line-stops : (b : ℕ) (l : List ℕ) (n : ℕ) → ends_line b ≡ true → not_line_ending_of (b ∷ l) ≡ Some n → n ≡ 0
 unfolding line_from
 line-stops b l n e f =
-    by-test (λ r. r ≡ Taken n → n ≡ 0) (eqb b 10) _ _
+    by-test (λ r. r ≡ Some n → n ≡ 0) (eqb b 10) _ _
     (λ g i. sym (taken_is 0 n i))
-    (λ g. by-test (λ r. r ≡ Taken n → n ≡ 0) (eqb b 13) _ _
-    (λ h. by-test (λ r. r ≡ Taken n → n ≡ 0) (starts_lf l) _ _ (λ i j. sym (taken_is 0 n j)) (λ i j. absurd (refused-taken n j)))
+    (λ g. by-test (λ r. r ≡ Some n → n ≡ 0) (eqb b 13) _ _
+    (λ h. by-test (λ r. r ≡ Some n → n ≡ 0) (starts_lf l) _ _ (λ i j. sym (taken_is 0 n j)) (λ i j. absurd (refused-taken n j)))
     (λ h i. absurd (true≢false (sym e ∙ ap (λ (x : Bool). x || eqb b 13) g ∙ h))))
     f
 
 -- no further line
-pub text-end : (indent s : List ℕ) → further_of indent s ≡ End → joined_of indent 0 s ≡ []
+pub text-end : (indent s : List ℕ) → further_of indent s ≡ None → joined_of indent 0 s ≡ []
 text-end indent s e = ap (λ (j : Joining). j.text) (lines_end indent s e)
 
 -- a further line
-pub text-further : (indent s : List ℕ) (a m : ℕ) → further_of indent s ≡ Further a m → joined_of indent 0 s ≡ 0x20 ∷ joined_of indent m (drop a s)
+pub text-further : (indent s : List ℕ) (a m : ℕ) → further_of indent s ≡ Some (a, m) → joined_of indent 0 s ≡ 0x20 ∷ joined_of indent m (drop a s)
 text-further indent s a m e =
     ap (λ (j : Joining). j.text) (lines-further indent s a m e)
     ∙ ap (λ (l : List ℕ). 0x20 ∷ (take m (drop a s) ++ (lines_of indent 0 l).text)) (sym (drop-drop m a s))
@@ -138,28 +135,28 @@ text-further indent s a m e =
 -- The further line, by its first bytes.
 
 -- behind the a bytes that are cut
-further-some : (indent s : List ℕ) (a : ℕ) → cut_of indent s ≡ Taken a → further_of indent s ≡ line_at a (not_line_ending_of (drop a s))
+further-some : (indent s : List ℕ) (a : ℕ) → cut_of indent s ≡ Some a → further_of indent s ≡ line_at a (not_line_ending_of (drop a s))
 unfolding further_of
 further-some indent s a e = simp (e, further_of)
 
 -- the indent and three spaces as one list, behind the k bytes of a line's end
-cut_at : (indent s : List ℕ) (k : ℕ) → line_ending_of s ≡ Taken k → cut_of indent s ≡ elim (starts_with (indent ++ three) (drop k s)) [ true ↦ Taken (k + length indent + 3) | false ↦ Refused ]
+cut_at : (indent s : List ℕ) (k : ℕ) → line_ending_of s ≡ Some k → cut_of indent s ≡ elim (starts_with (indent ++ three) (drop k s)) [ true ↦ Some (k + length indent + 3) | false ↦ None ]
 unfolding cut_of
 cut_at indent s k e = simp (e, starts-append, cut_of)
 
 pub further-at :
-    (indent s : List ℕ) (k : ℕ) → line_ending_of s ≡ Taken k → further_of indent s
+    (indent s : List ℕ) (k : ℕ) → line_ending_of s ≡ Some k → further_of indent s
     ≡ elim (starts_with (indent ++ three) (drop k s)) [
       | true ↦ line_at (k + length indent + 3) (not_line_ending_of (drop (k + length indent + 3) s))
-      | false ↦ End
+      | false ↦ None
     ]
 further-at indent s k e = go (starts_with (indent ++ three) (drop k s)) (cut_at indent s k e)
   where
-    go : (x : Bool) → cut_of indent s ≡ elim x [ true ↦ Taken (k + length indent + 3) | false ↦ Refused ] → further_of indent s ≡ elim x [ true ↦ line_at (k + length indent + 3) (not_line_ending_of (drop (k + length indent + 3) s)) | false ↦ End ]
+    go : (x : Bool) → cut_of indent s ≡ elim x [ true ↦ Some (k + length indent + 3) | false ↦ None ] → further_of indent s ≡ elim x [ true ↦ line_at (k + length indent + 3) (not_line_ending_of (drop (k + length indent + 3) s)) | false ↦ None ]
     go true f = further-some indent s (k + length indent + 3) f
     go false f = further-none indent s f
 
-pub further-none-at : (indent s : List ℕ) → line_ending_of s ≡ Refused → further_of indent s ≡ End
+pub further-none-at : (indent s : List ℕ) → line_ending_of s ≡ None → further_of indent s ≡ None
 further-none-at indent s e = further-none indent s (cut-none indent s e)
 
 -- at LF
@@ -168,15 +165,15 @@ module _ (indent l : List ℕ) where
       further_of indent (10 ∷ l)
       ≡ elim (starts_with (indent ++ three) l) [
         | true ↦ line_at (suc (length (indent ++ three))) (not_line_ending_of (drop (length (indent ++ three)) l))
-        | false ↦ End
+        | false ↦ None
       ]
   further-lf =
       let z : 1 + length indent + 3 ≡ suc (length (indent ++ three)) = omega (arith, length-append indent three) in
       further-at indent (10 ∷ l) 1 (ending-lf (10 ∷ l) (omega arith) refl)
-      ∙ ap (λ (k : ℕ). elim (starts_with (indent ++ three) l) [ true ↦ line_at k (not_line_ending_of (drop k (10 ∷ l))) | false ↦ End ]) z
+      ∙ ap (λ (k : ℕ). elim (starts_with (indent ++ three) l) [ true ↦ line_at k (not_line_ending_of (drop k (10 ∷ l))) | false ↦ None ]) z
 
   -- no indent and three spaces
-  pub further-lf-other : starts_with (indent ++ three) l ≡ false → further_of indent (10 ∷ l) ≡ End
+  pub further-lf-other : starts_with (indent ++ three) l ≡ false → further_of indent (10 ∷ l) ≡ None
   further-lf-other e = further-lf ∙ rw e refl
 
   -- they stand there
@@ -188,47 +185,47 @@ module _ (indent l : List ℕ) where
       further_of indent (13 ∷ 10 ∷ l)
       ≡ elim (starts_with (indent ++ three) l) [
         | true ↦ line_at (suc (suc (length (indent ++ three)))) (not_line_ending_of (drop (length (indent ++ three)) l))
-        | false ↦ End
+        | false ↦ None
       ]
   further-crlf =
       let z : 2 + length indent + 3 ≡ suc (suc (length (indent ++ three))) = omega (arith, length-append indent three) in
       further-at indent (13 ∷ 10 ∷ l) 2 (ending-crlf (13 ∷ 10 ∷ l) (omega arith) (λ e. omega (arith, e)) refl refl)
-      ∙ ap (λ (k : ℕ). elim (starts_with (indent ++ three) l) [ true ↦ line_at k (not_line_ending_of (drop k (13 ∷ 10 ∷ l))) | false ↦ End ]) z
+      ∙ ap (λ (k : ℕ). elim (starts_with (indent ++ three) l) [ true ↦ line_at k (not_line_ending_of (drop k (13 ∷ 10 ∷ l))) | false ↦ None ]) z
 
 -- The same further line, with one byte more before it.
-abbrev SameLine : Line → Line → Type 0
-SameLine (Further a n) x = x ≡ Further (suc a) n
-SameLine End x = x ≡ End
+abbrev SameLine : Option (ℕ × ℕ) → Option (ℕ × ℕ) → Type 0
+SameLine (Some (a, n)) x = x ≡ Some ((suc a), n)
+SameLine None x = x ≡ None
 
 same_line : (indent l : List ℕ) → SameLine (further_of indent (10 ∷ l)) (further_of indent (13 ∷ 10 ∷ l))
 same_line indent l = rw (further-lf indent l, further-crlf indent l) (go (starts_with (indent ++ three) l) (not_line_ending_of (drop (length (indent ++ three)) l)))
   where
     go :
-        (x : Bool) (y : Part)
+        (x : Bool) (y : Option ℕ)
         → SameLine
-        (elim x [ true ↦ line_at (suc (length (indent ++ three))) y | false ↦ End ])
-        (elim x [ true ↦ line_at (suc (suc (length (indent ++ three)))) y | false ↦ End ])
-    go true (Taken n) = refl
-    go true Refused = refl
+        (elim x [ true ↦ line_at (suc (length (indent ++ three))) y | false ↦ None ])
+        (elim x [ true ↦ line_at (suc (suc (length (indent ++ three)))) y | false ↦ None ])
+    go true (Some n) = refl
+    go true None = refl
     go false y = refl
 
 module _ (indent l : List ℕ) where
   pub crlf-further : is_further (further_of indent (13 ∷ 10 ∷ l)) ≡ is_further (further_of indent (10 ∷ l))
   crlf-further = go (further_of indent (10 ∷ l)) (same_line indent l)
     where
-      go : (x : Line) → SameLine x (further_of indent (13 ∷ 10 ∷ l)) → is_further (further_of indent (13 ∷ 10 ∷ l)) ≡ is_further x
-      go (Further a n) e = ap is_further e
-      go End e = ap is_further e
+      go : (x : Option (ℕ × ℕ)) → SameLine x (further_of indent (13 ∷ 10 ∷ l)) → is_further (further_of indent (13 ∷ 10 ∷ l)) ≡ is_further x
+      go (Some (a, n)) e = ap is_further e
+      go None e = ap is_further e
 
   -- the text is that of LF behind CR
   pub crlf-text : joined_of indent 0 (13 ∷ 10 ∷ l) ≡ joined_of indent 0 (10 ∷ l)
   crlf-text = go (further_of indent (10 ∷ l)) refl (same_line indent l)
     where
-      go : (x : Line) → further_of indent (10 ∷ l) ≡ x → SameLine x (further_of indent (13 ∷ 10 ∷ l)) → joined_of indent 0 (13 ∷ 10 ∷ l) ≡ joined_of indent 0 (10 ∷ l)
-      go (Further a n) e f = text-further indent (13 ∷ 10 ∷ l) (suc a) n f ∙ sym (text-further indent (10 ∷ l) a n e)
-      go End e f = text-end indent (13 ∷ 10 ∷ l) f ∙ sym (text-end indent (10 ∷ l) e)
+      go : (x : Option (ℕ × ℕ)) → further_of indent (10 ∷ l) ≡ x → SameLine x (further_of indent (13 ∷ 10 ∷ l)) → joined_of indent 0 (13 ∷ 10 ∷ l) ≡ joined_of indent 0 (10 ∷ l)
+      go (Some (a, n)) e f = text-further indent (13 ∷ 10 ∷ l) (suc a) n f ∙ sym (text-further indent (10 ∷ l) a n e)
+      go None e f = text-end indent (13 ∷ 10 ∷ l) f ∙ sym (text-end indent (10 ∷ l) e)
 
-pub crlf-here : (l : List ℕ) → not_line_ending_of (13 ∷ 10 ∷ l) ≡ Taken 0
+pub crlf-here : (l : List ℕ) → not_line_ending_of (13 ∷ 10 ∷ l) ≡ Some 0
 unfolding line_from
 crlf-here l = refl
 
@@ -242,7 +239,7 @@ module _ (s : List ℕ) (i : ℕ) (h : i + 1 < length s) (e : get_or s i 0 ≡ 1
   pub crlf-first : drop i s ≡ 13 ∷ 10 ∷ drop (i + 2) s
   crlf-first = drop-two s i h ∙ ap (λ (b : ℕ). b ∷ get_or s (i + 1) 0 ∷ drop (i + 2) s) e ∙ ap (λ (b : ℕ). 13 ∷ b ∷ drop (i + 2) s) f
 
-  pub taken-cr : not_line_ending_of (drop i s) ≡ Taken 0
+  pub taken-cr : not_line_ending_of (drop i s) ≡ Some 0
   taken-cr = ap (λ (l : List ℕ). not_line_ending_of l) crlf-first ∙ crlf-here (drop (i + 2) s)
 
 -- LF at a place

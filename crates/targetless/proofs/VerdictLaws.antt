@@ -2,6 +2,7 @@
 -- which the run passes, stops at or reads with the next one. Over a line's end the run passes a space and then the blanks before the next line, or
 -- ends; whether a further line stands behind that one the blanks say that both lines have in common.
 -- Assumes nothing.
+use Rattle.std.proofs.Common.{Option, Some, None}
 use Prim.Native.Nat.{ℕ, zero, suc, ◌+◌, ◌-◌, ◌^◌, ◌<◌, ◌≤◌}
 use native.Mathlib.Omega.{arith}
 use native.Mathlib.Nat.{div-one}
@@ -17,14 +18,11 @@ use lib.Seq.{drop-drop}
 use borrow.Author.Tests.{eq-eqb, ne_eqb, eqb-true, ltb-true, ltb-false, lt-ltb, le-ltb}
 use Rattle.rst_bytes.specs.Line.{line_from, not_line_ending_of, is_space}
 use Rattle.rst_bytes.specs.Tag.{starts_with}
-use Rattle.rst_bytes.specs.declared.Part.TheVariants.{Taken, Refused}
 use Rattle.rst_bytes.proofs.Lists.{drop-next, drop-end}
 use Rattle.rst_bytes.proofs.TestLaws.{picks_first, picks_second, by-test, by-test₂, or_cases, lt-or-le}
 use Rattle.rst_bytes.proofs.EscapedLaws.{refused-taken, taken_is}
 use Rattle.rst_bytes.proofs.LineLaws.{ending-none, not-line-ending-le}
 use Rattle.rst_bytes.proofs.TagLaws.{starts-le, starts-shorter}
-use Rattle.restructured_text.specs.declared.block.Line.{Line}
-use Rattle.restructured_text.specs.declared.block.Line.TheVariants.{Further, End}
 use Rattle.restructured_text.specs.Block.{three, line_at, further_of}
 use Rattle.targetless.specs.declared.Verdict.{Verdict}
 use Rattle.targetless.specs.Verdict.{joined_of, is_further, Blank, bit_at, is_lone, everything, nothing, sure_of, both_of, either_of, less_of, up_to_of, beyond_of, lone_of, over_of, judged_of, Tells, run, ends_line, escape_of, Follows, Shared}
@@ -64,21 +62,21 @@ pub tells-nothing : (f : List ℕ → Bool) (s : List ℕ) → Tells f nothing s
 tells-nothing f s indent k blank e j = absurd (nothing-judged (is_further (further_of indent (drop k s))) (length indent) j)
 
 -- no block has a line that is refused
-pub tells-refused : (f : List ℕ → Bool) (v : Verdict) (s : List ℕ) → not_line_ending_of s ≡ Refused → Tells f v s
+pub tells-refused : (f : List ℕ → Bool) (v : Verdict) (s : List ℕ) → not_line_ending_of s ≡ None → Tells f v s
 tells-refused f v s h indent n blank e = absurd (refused-taken n (sym h ∙ e))
 
 -- it is so for each text
-pub tells_all : (f : List ℕ → Bool) (v : Verdict) (s : List ℕ) → ((indent : List ℕ) (n : ℕ) → not_line_ending_of s ≡ Taken n → f (joined_of indent n s) ≡ true) → Tells f v s
+pub tells_all : (f : List ℕ → Bool) (v : Verdict) (s : List ℕ) → ((indent : List ℕ) (n : ℕ) → not_line_ending_of s ≡ Some n → f (joined_of indent n s) ≡ true) → Tells f v s
 tells_all f v s h indent n blank e j = h indent n e
 
 -- what is so follows from what is told
 pub tells-from :
     (f g : List ℕ → Bool) (v : Verdict) (s : List ℕ) → Tells f v s
-    → ((indent : List ℕ) (n : ℕ) → not_line_ending_of s ≡ Taken n → f (joined_of indent n s) ≡ true → g (joined_of indent n s) ≡ true) → Tells g v s
+    → ((indent : List ℕ) (n : ℕ) → not_line_ending_of s ≡ Some n → f (joined_of indent n s) ≡ true → g (joined_of indent n s) ≡ true) → Tells g v s
 tells-from f g v s t h indent n blank e j = h indent n e (t indent n blank e j)
 
 -- what is sure
-pub tells-sure : (f : List ℕ → Bool) (sure : Bool) (s : List ℕ) → ((indent : List ℕ) (m : ℕ) → not_line_ending_of s ≡ Taken m → f (joined_of indent m s) ≡ sure) → Tells f (sure_of sure) s
+pub tells-sure : (f : List ℕ → Bool) (sure : Bool) (s : List ℕ) → ((indent : List ℕ) (m : ℕ) → not_line_ending_of s ≡ Some m → f (joined_of indent m s) ≡ sure) → Tells f (sure_of sure) s
 tells-sure f true s g = tells_all f everything s g
 tells-sure f false s g = tells-nothing f s
 
@@ -264,18 +262,18 @@ module _ (stop : ℕ) (ok : ℕ → Bool) (at : List ℕ → Bool) (wrong end : 
     escape-line c l f t indent n blank i =
         let w = line-behind b (c ∷ l) plain n i in
         let z : w.0 ≡ 0 = line-stops c l w.0 f w.1 in
-        let y : not_line_ending_of (c ∷ l) ≡ Taken 0 = w.1 ∙ ap Taken z in
+        let y : not_line_ending_of (c ∷ l) ≡ Some 0 = w.1 ∙ ap Some z in
         subst⁻¹
         (λ (k : ℕ). judged_of (lone_of near wrong) (is_further (further_of indent (drop k (b ∷ c ∷ l)))) (length indent) ≡ true → run stop ok at wrong end (joined_of indent k (b ∷ c ∷ l)) ≡ true)
         (w.2 ∙ ap suc z)
         (go (further_of indent (c ∷ l)) refl (t indent 0 blank y))
       where
         go :
-            (x : Line) → further_of indent (c ∷ l) ≡ x
+            (x : Option (ℕ × ℕ)) → further_of indent (c ∷ l) ≡ x
             → (judged_of near (is_further (further_of indent (c ∷ l))) (length indent) ≡ true → run stop ok at wrong end (joined_of indent 0 (c ∷ l)) ≡ true)
             → judged_of (lone_of near wrong) (is_further (further_of indent (c ∷ l))) (length indent) ≡ true
             → run stop ok at wrong end (b ∷ joined_of indent 0 (c ∷ l)) ≡ true
-        go (Further a m) g k j =
+        go (Some (a, m)) g k j =
             let u = joined_of indent m (drop a (c ∷ l)) in
             let further : is_further (further_of indent (c ∷ l)) ≡ true = ap is_further g in
             let told = k (ap (λ (x : Bool). judged_of near x (length indent)) further ∙ judged-lone near wrong (length indent) (sym (ap (λ (x : Bool). judged_of (lone_of near wrong) x (length indent)) further) ∙ j)) in
@@ -284,10 +282,10 @@ module _ (stop : ℕ) (ok : ℕ → Bool) (at : List ℕ → Bool) (wrong end : 
             ∙ sym (run-plain 0x20 u refl (ne_eqb _ _ (λ r. other (sym r))))
             ∙ ap (run stop ok at wrong end) (sym (text-further indent (c ∷ l) a m g))
             ∙ told
-        go End g k j =
+        go None g k j =
             ap (λ (q : List ℕ). run stop ok at wrong end (b ∷ q)) (text-end indent (c ∷ l) g)
             ∙ run_alone b e
-            ∙ lone_is near wrong (length indent) (sym (ap (λ (x : Line). judged_of (lone_of near wrong) (is_further x) (length indent)) g) ∙ j)
+            ∙ lone_is near wrong (length indent) (sym (ap (λ (x : Option (ℕ × ℕ)). judged_of (lone_of near wrong) (is_further x) (length indent)) g) ∙ j)
 
     escape-pair : (c : ℕ) (l : List ℕ) → ends_line c ≡ false → ok c ≡ true → Tells (run stop ok at wrong end) far l → Tells (run stop ok at wrong end) far (b ∷ c ∷ l)
     escape-pair c l f g t =
@@ -325,13 +323,13 @@ module _ (stop : ℕ) (ok : ℕ → Bool) (at : List ℕ → Bool) (wrong end : 
       (subst⁻¹ (Tells (run stop ok at wrong end) far) (drop-drop 1 (i + 1) s ∙ ap (λ (k : ℕ). drop k s) z) u))
 
   -- at the end of the text
-  pub tells-last : (s : List ℕ) → not_line_ending_of s ≡ Taken 0 → ((indent : List ℕ) → Blank indent → further_of indent s ≡ End) → Tells (run stop ok at wrong end) (lone_of everything end) s
+  pub tells-last : (s : List ℕ) → not_line_ending_of s ≡ Some 0 → ((indent : List ℕ) → Blank indent → further_of indent s ≡ None) → Tells (run stop ok at wrong end) (lone_of everything end) s
   tells-last s h g indent m blank e =
       let z : m ≡ 0 = taken_is m 0 (sym e ∙ h) in
       subst⁻¹ (λ (k : ℕ). judged_of (lone_of everything end) (is_further (further_of indent (drop k s))) (length indent) ≡ true → run stop ok at wrong end (joined_of indent k s) ≡ true) z
       (λ j.
       ap (run stop ok at wrong end) (text-end indent s (g indent blank)) ∙ run_none
-      ∙ lone_is everything end (length indent) (sym (ap (λ (x : Line). judged_of (lone_of everything end) (is_further x) (length indent)) (g indent blank)) ∙ j))
+      ∙ lone_is everything end (length indent) (sym (ap (λ (x : Option (ℕ × ℕ)). judged_of (lone_of everything end) (is_further x) (length indent)) (g indent blank)) ∙ j))
 
 -- Blanks.
 
@@ -427,7 +425,7 @@ module _ (indent s t : List ℕ) (k : ℕ) where
   shared-more shared h e = shared-starts (indent ++ three) s t k shared (omega (arith, length-append indent three, h)) e
 
 -- A line that begins with blanks, by what stands behind them.
-blank-line : (q s : List ℕ) (n : ℕ) → Blank q → starts_with q s ≡ true → not_line_ending_of s ≡ Taken n → (k : ℕ) × (not_line_ending_of (drop (length q) s) ≡ Taken k)
+blank-line : (q s : List ℕ) (n : ℕ) → Blank q → starts_with q s ≡ true → not_line_ending_of s ≡ Some n → (k : ℕ) × (not_line_ending_of (drop (length q) s) ≡ Some k)
 blank-line [] s n blank e f = (n, f)
 blank-line (c ∷ q) [] n blank e f = absurd (false≢true (sym (starts-never c q) ∙ e))
 blank-line (c ∷ q) (b ∷ s) n blank e f =
@@ -435,7 +433,7 @@ blank-line (c ∷ q) (b ∷ s) n blank e f =
     let y = line-behind b s (space-plain b (ap is_space w.0 ∙ blank 0 (omega arith))).0 n f in
     blank-line q s y.0 (blank-next c q blank) w.1 y.1
 
-blank-refused : (q s : List ℕ) → Blank q → starts_with q s ≡ true → not_line_ending_of s ≡ Refused → not_line_ending_of (drop (length q) s) ≡ Refused
+blank-refused : (q s : List ℕ) → Blank q → starts_with q s ≡ true → not_line_ending_of s ≡ None → not_line_ending_of (drop (length q) s) ≡ None
 blank-refused [] s blank e f = f
 blank-refused (c ∷ q) [] blank e f = absurd (false≢true (sym (starts-never c q) ∙ e))
 blank-refused (c ∷ q) (b ∷ s) blank e f =
@@ -444,7 +442,7 @@ blank-refused (c ∷ q) (b ∷ s) blank e f =
 
 -- with them it is the text behind them
 pub blank-joined :
-    (indent q s : List ℕ) (n k : ℕ) → Blank q → starts_with q s ≡ true → not_line_ending_of s ≡ Taken n → not_line_ending_of (drop (length q) s) ≡ Taken k
+    (indent q s : List ℕ) (n k : ℕ) → Blank q → starts_with q s ≡ true → not_line_ending_of s ≡ Some n → not_line_ending_of (drop (length q) s) ≡ Some k
     → joined_of indent n s ≡ q ++ joined_of indent k (drop (length q) s)
 blank-joined indent [] s n k blank e f g = ap (λ (i : ℕ). joined_of indent i s) (taken_is n k (sym f ∙ g))
 blank-joined indent (c ∷ q) [] n k blank e f g = absurd (false≢true (sym (starts-never c q) ∙ e))
@@ -458,13 +456,13 @@ blank-joined indent (c ∷ q) (b ∷ s) n k blank e f g =
 
 -- At LF, by the next line.
 module _ (indent l : List ℕ) (blank : Blank indent) where
-  pub lf-taken : (m : ℕ) → not_line_ending_of l ≡ Taken m → starts_with (indent ++ three) l ≡ true → (k : ℕ) × (not_line_ending_of (drop (length (indent ++ three)) l) ≡ Taken k) × (further_of indent (10 ∷ l) ≡ Further (suc (length (indent ++ three))) k)
+  pub lf-taken : (m : ℕ) → not_line_ending_of l ≡ Some m → starts_with (indent ++ three) l ≡ true → (k : ℕ) × (not_line_ending_of (drop (length (indent ++ three)) l) ≡ Some k) × (further_of indent (10 ∷ l) ≡ Some ((suc (length (indent ++ three))), k))
   lf-taken m e f =
       let w = blank-line (indent ++ three) l m (blank-three indent blank) f e in
       (w.0, w.1, further-lf-starts indent l f ∙ ap (line_at (suc (length (indent ++ three)))) w.1)
 
   -- it is a further line just if it begins with the indent and three spaces
-  lf-further : (m : ℕ) → not_line_ending_of l ≡ Taken m → is_further (further_of indent (10 ∷ l)) ≡ starts_with (indent ++ three) l
+  lf-further : (m : ℕ) → not_line_ending_of l ≡ Some m → is_further (further_of indent (10 ∷ l)) ≡ starts_with (indent ++ three) l
   lf-further m e = go (starts_with (indent ++ three) l) refl
     where
       go : (x : Bool) → starts_with (indent ++ three) l ≡ x → is_further (further_of indent (10 ∷ l)) ≡ starts_with (indent ++ three) l
@@ -472,10 +470,10 @@ module _ (indent l : List ℕ) (blank : Blank indent) where
       go false f = ap is_further (further-lf-other indent l f) ∙ sym f
 
   -- it is none if it is refused
-  lf-refused : not_line_ending_of l ≡ Refused → further_of indent (10 ∷ l) ≡ End
+  lf-refused : not_line_ending_of l ≡ None → further_of indent (10 ∷ l) ≡ None
   lf-refused e = go (starts_with (indent ++ three) l) refl
     where
-      go : (x : Bool) → starts_with (indent ++ three) l ≡ x → further_of indent (10 ∷ l) ≡ End
+      go : (x : Bool) → starts_with (indent ++ three) l ≡ x → further_of indent (10 ∷ l) ≡ None
       go true f = further-lf-starts indent l f ∙ ap (line_at (suc (length (indent ++ three)))) (blank-refused (indent ++ three) l (blank-three indent blank) f e)
       go false f = further-lf-other indent l f
 
@@ -485,7 +483,7 @@ module _ (indent l : List ℕ) (blank : Blank indent) where
 end-starts : (indent s : List ℕ) → starts_with (indent ++ three) (drop (length s) s) ≡ false
 end-starts indent s = starts-shorter (indent ++ three) (drop (length s) s) (omega (arith, length-append indent three, length-drop (length s) s))
 
-pub follows-refused : (next : ℕ) (w s : List ℕ) → not_line_ending_of s ≡ Refused → Follows next w s
+pub follows-refused : (next : ℕ) (w s : List ℕ) → not_line_ending_of s ≡ None → Follows next w s
 follows-refused next w s h indent n blank e = absurd (refused-taken n (sym h ∙ e))
 
 pub follows-byte : (next : ℕ) (w s : List ℕ) (i : ℕ) → i < length s → ends_line (get_or s i 0) ≡ false → Follows next w (drop (i + 1) s) → Follows next w (drop i s)
@@ -497,18 +495,18 @@ follows-byte next w s i h e f = subst⁻¹ (Follows next w) (drop-next s i h) co
         subst⁻¹ (λ (k : ℕ). is_further (further_of indent (drop k (get_or s i 0 ∷ drop (i + 1) s))) ≡ starts_with (indent ++ three) (drop next w)) y.2 (f indent y.0 blank y.1)
 
 -- a line has no byte here
-follows-here : (next : ℕ) (w s : List ℕ) → not_line_ending_of s ≡ Taken 0 → ((indent : List ℕ) → Blank indent → is_further (further_of indent s) ≡ starts_with (indent ++ three) (drop next w)) → Follows next w s
+follows-here : (next : ℕ) (w s : List ℕ) → not_line_ending_of s ≡ Some 0 → ((indent : List ℕ) → Blank indent → is_further (further_of indent s) ≡ starts_with (indent ++ three) (drop next w)) → Follows next w s
 follows-here next w s h f indent n blank e =
     subst⁻¹ (λ (k : ℕ). is_further (further_of indent (drop k s)) ≡ starts_with (indent ++ three) (drop next w)) (taken_is n 0 (sym e ∙ h)) (f indent blank)
 
 module _ (s : List ℕ) (i : ℕ) (h : i < length s) (e : get_or s i 0 ≡ 10) where
-  pub follows-lf : (m : ℕ) → not_line_ending_of (drop (i + 1) s) ≡ Taken m → Follows (i + 1) s (drop i s)
+  pub follows-lf : (m : ℕ) → not_line_ending_of (drop (i + 1) s) ≡ Some m → Follows (i + 1) s (drop i s)
   follows-lf m f =
       subst⁻¹ (Follows (i + 1) s) (lf-first s i h e)
       (follows-here (i + 1) s (10 ∷ drop (i + 1) s) (line-here (drop (i + 1) s)) (λ indent blank. lf-further indent (drop (i + 1) s) blank m f))
 
-  module _ (f : not_line_ending_of (drop (i + 1) s) ≡ Refused) where
-    pub further-lf-refused : (indent : List ℕ) → Blank indent → further_of indent (drop i s) ≡ End
+  module _ (f : not_line_ending_of (drop (i + 1) s) ≡ None) where
+    pub further-lf-refused : (indent : List ℕ) → Blank indent → further_of indent (drop i s) ≡ None
     further-lf-refused indent blank = ap (further_of indent) (lf-first s i h e) ∙ lf-refused indent (drop (i + 1) s) blank f
 
     pub follows-lf-refused : Follows (length s) s (drop i s)
@@ -518,10 +516,10 @@ module _ (s : List ℕ) (i : ℕ) (h : i < length s) (e : get_or s i 0 ≡ 10) w
         (λ indent blank. ap is_further (further-lf-refused indent blank) ∙ sym (end-starts indent s))
 
 -- at the text's end
-pub further-end : (indent s : List ℕ) → further_of indent (drop (length s) s) ≡ End
+pub further-end : (indent s : List ℕ) → further_of indent (drop (length s) s) ≡ None
 further-end indent s = further-none-at indent (drop (length s) s) (ending-none (drop (length s) s) (omega (arith, length-drop (length s) s)))
 
-pub line-last : (s : List ℕ) → not_line_ending_of (drop (length s) s) ≡ Taken 0
+pub line-last : (s : List ℕ) → not_line_ending_of (drop (length s) s) ≡ Some 0
 unfolding line_from
 line-last s = ap (λ (l : List ℕ). not_line_ending_of l) (drop-end s (length s) (omega arith))
 
@@ -587,12 +585,12 @@ module _ (stop : ℕ) (ok : ℕ → Bool) (at : List ℕ → Bool) (wrong end : 
       run-plain stop ok at wrong end c (q ++ t) (space-plain c is).1 (blank-other c is) ∙ run-blanks q t (blank-next c q blank)
 
   run-blank :
-      (indent q s : List ℕ) (n k : ℕ) → Blank q → starts_with q s ≡ true → not_line_ending_of s ≡ Taken n → not_line_ending_of (drop (length q) s) ≡ Taken k
+      (indent q s : List ℕ) (n k : ℕ) → Blank q → starts_with q s ≡ true → not_line_ending_of s ≡ Some n → not_line_ending_of (drop (length q) s) ≡ Some k
       → goes (joined_of indent n s) ≡ goes (joined_of indent k (drop (length q) s))
   run-blank indent q s n k blank e f g = ap goes (blank-joined indent q s n k blank e f g) ∙ run-blanks q _ blank
 
   over-lf :
-      (v : Verdict) (l t : List ℕ) (k m : ℕ) → not_line_ending_of l ≡ Taken m
+      (v : Verdict) (l t : List ℕ) (k m : ℕ) → not_line_ending_of l ≡ Some m
       → ((indent : List ℕ) → Blank indent → is_further (further_of indent (drop m l)) ≡ starts_with (indent ++ three) t) → Shared k l t → Tells goes v l
       → Tells goes (over_of v end k) (10 ∷ l)
   over-lf v l t k m line follows shared told indent z blank here =
@@ -616,14 +614,14 @@ module _ (stop : ℕ) (ok : ℕ → Bool) (at : List ℕ → Bool) (wrong end : 
           ap goes (text-further indent (10 ∷ l) (suc (length (indent ++ three))) w.0 w.2)
           ∙ run-plain stop ok at wrong end 0x20 u refl (ne_eqb _ _ (λ r. space (sym r)))
           ∙ sym (run-blank indent (indent ++ three) l m w.0 (blank-three indent blank) e line w.1)
-          ∙ next e (sym (ap (λ (x : Line). judged_of (over_of v end k) (is_further x) (length indent)) w.2) ∙ j)
+          ∙ next e (sym (ap (λ (x : Option (ℕ × ℕ)). judged_of (over_of v end k) (is_further x) (length indent)) w.2) ∙ j)
       go false e j =
           let f = further-lf-other indent l e in
           ap goes (text-end indent (10 ∷ l) f) ∙ run_none stop ok at wrong end
-          ∙ lone_is _ end (length indent) (sym (ap (λ (x : Line). judged_of (over_of v end k) (is_further x) (length indent)) f) ∙ j)
+          ∙ lone_is _ end (length indent) (sym (ap (λ (x : Option (ℕ × ℕ)). judged_of (over_of v end k) (is_further x) (length indent)) f) ∙ j)
 
   pub tells-over :
-      (v : Verdict) (s : List ℕ) (i next k m : ℕ) → i < length s → get_or s i 0 ≡ 10 → not_line_ending_of (drop (i + 1) s) ≡ Taken m
+      (v : Verdict) (s : List ℕ) (i next k m : ℕ) → i < length s → get_or s i 0 ≡ 10 → not_line_ending_of (drop (i + 1) s) ≡ Some m
       → Follows next s (drop (i + 1) s) → Shared k (drop (i + 1) s) (drop next s) → Tells (run stop ok at wrong end) v (drop (i + 1) s)
       → Tells (run stop ok at wrong end) (over_of v end k) (drop i s)
   tells-over v s i next k m h e line follows shared told =

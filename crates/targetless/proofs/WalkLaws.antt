@@ -1,6 +1,7 @@
 -- What is kept at a place is true of it if what is kept at the next one is: at the text's end and where the next line is refused no line follows; over a
 -- line's end each run goes on, and a target that begins there is a destination, since a space stands before it. And the marks: none is set, or one more.
 -- Assumes nothing.
+use Rattle.std.proofs.Common.{Option, Some, None}
 use Prim.Native.Nat.{ℕ, ◌+◌, ◌-◌, ◌<◌, ◌≤◌}
 use native.Mathlib.Omega.{arith}
 use mathlib.Core.Path.{◌≡◌, refl, sym, ap, subst, subst⁻¹, ◌∙◌}
@@ -14,14 +15,11 @@ use borrow.Author.Tests.{eqb-true, eqb-false}
 use Rattle.rst_bytes.specs.Line.{is_space, space0_of, not_line_ending_of, line_from}
 use Rattle.rst_bytes.specs.Tag.{starts_with}
 use Rattle.rst_bytes.specs.Word.{is_ascii_word}
-use Rattle.rst_bytes.specs.declared.Part.TheVariants.{Taken, Refused}
 use Rattle.rst_bytes.proofs.Lists.{drop-end, drop-next}
 use Rattle.rst_bytes.proofs.TestLaws.{by-test, lt-or-le}
 use Rattle.rst_bytes.proofs.EscapedLaws.{refused-taken, taken_is}
 use Rattle.rst_bytes.proofs.LineLaws.{ending-none}
 use Rattle.restructured_text.specs.Block.{further_of}
-use Rattle.restructured_text.specs.declared.block.Line.{Line}
-use Rattle.restructured_text.specs.declared.block.Line.TheVariants.{End}
 use Rattle.targetless.specs.declared.Verdict.{Verdict}
 use Rattle.targetless.specs.declared.State.{State}
 use Rattle.targetless.specs.declared.line.Walk.{Walk}
@@ -39,14 +37,14 @@ use Rattle.targetless.proofs.LineTargetLaws.{blanks-more, blanks-none, line-lone
 -- Where no further line follows.
 
 -- nothing is told where a verdict tells nothing of that
-tells-alone : (g : List ℕ → Bool) (v : Verdict) (s : List ℕ) → is_lone v ≡ false → not_line_ending_of s ≡ Taken 0 → ((indent : List ℕ) → Blank indent → further_of indent s ≡ End) → Tells g v s
+tells-alone : (g : List ℕ → Bool) (v : Verdict) (s : List ℕ) → is_lone v ≡ false → not_line_ending_of s ≡ Some 0 → ((indent : List ℕ) → Blank indent → further_of indent s ≡ None) → Tells g v s
 tells-alone g v s a h f indent n blank e j =
     let z : n ≡ 0 = taken_is n 0 (sym e ∙ h) in
-    let y : further_of indent (drop n s) ≡ End = ap (λ (k : ℕ). further_of indent (drop k s)) z ∙ f indent blank in
-    absurd (false≢true (sym (ap (λ (x : Line). judged_of v (is_further x) (length indent)) y ∙ a) ∙ j))
+    let y : further_of indent (drop n s) ≡ None = ap (λ (k : ℕ). further_of indent (drop k s)) z ∙ f indent blank in
+    absurd (false≢true (sym (ap (λ (x : Option (ℕ × ℕ)). judged_of v (is_further x) (length indent)) y ∙ a) ∙ j))
 
 -- all verdicts
-last-tells : (s : List ℕ) → not_line_ending_of s ≡ Taken 0 → ((indent : List ℕ) → Blank indent → further_of indent s ≡ End) → StateTells last_of s
+last-tells : (s : List ℕ) → not_line_ending_of s ≡ Some 0 → ((indent : List ℕ) → Blank indent → further_of indent s ≡ None) → StateTells last_of s
 last-tells s h f = (
   tells-last 10 (escapable_of false) (λ t. false) true false s h f,
   tells-last 0x60 (escapable_of false) label_stop true true s h f,
@@ -143,7 +141,7 @@ module _ (s : List ℕ) (i : ℕ) (w : Walk) (a : State) (h : i < length s) (e :
       )
 
   -- before one that is not
-  module _ (k m : ℕ) (line : not_line_ending_of (drop (i + 1) s) ≡ Taken m) (same : Shared k (drop (i + 1) s) (drop w.next s)) where
+  module _ (k m : ℕ) (line : not_line_ending_of (drop (i + 1) s) ≡ Some m) (same : Shared k (drop (i + 1) s) (drop w.next s)) where
     over-destination : Tells destination_run (over_of w.near.destination false k) (drop i s)
     over-destination =
         tells-over 10 (escapable_of false) (λ t. false) true false (λ x. omega (arith, x)) (λ x. omega (arith, x))
@@ -228,7 +226,7 @@ module _ (s : List ℕ) (i : ℕ) (w : Walk) (told : Walked w (i + 1) s) where
 
   -- the line is refused
   pub walked-broken :
-      (u v : Verdict) → v ≡ nothing → not_line_ending_of (drop i s) ≡ Refused
+      (u v : Verdict) → v ≡ nothing → not_line_ending_of (drop i s) ≡ None
       → Walked (record { near = w.near; far = w.near; stop = u; front = v; next = length s; broken = true }) i s
   walked-broken u v q e = (
     (

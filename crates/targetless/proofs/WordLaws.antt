@@ -1,6 +1,7 @@
 -- A word label at the front of a line is one at the front of the block's text: a word ends at the line's end, and in the text at the space that joins
 -- the next line, or with the text.
 -- Assumes nothing.
+use Rattle.std.proofs.Common.{Option, Some, None}
 use Prim.Native.Nat.{ℕ, ◌-◌, ◌<◌}
 use native.Mathlib.Omega.{arith}
 use mathlib.Core.Path.{◌≡◌, refl, sym, ap, subst⁻¹, ◌∙◌}
@@ -12,14 +13,11 @@ use lib.ListN.{length, get_or, drop, take, take-append-drop, get_or-append}
 use borrow.Author.Tests.{eqb-true}
 use Rattle.rst_bytes.specs.Line.{line_ending_of, not_line_ending_of}
 use Rattle.rst_bytes.specs.Word.{is_ascii_word, word_of}
-use Rattle.rst_bytes.specs.declared.Part.TheVariants.{Taken}
 use Rattle.rst_bytes.proofs.Lists.{drop-end}
 use Rattle.rst_bytes.proofs.TestLaws.{picks_second, lt-or-le}
 use Rattle.rst_bytes.proofs.EscapedLaws.{refused-taken}
 use Rattle.rst_bytes.proofs.LineLaws.{not-line-ending-end}
 use Rattle.rst_bytes.proofs.WordLaws.{word-within, word-ended}
-use Rattle.restructured_text.specs.declared.block.Line.{Line}
-use Rattle.restructured_text.specs.declared.block.Line.TheVariants.{Further, End}
 use Rattle.restructured_text.specs.Block.{further_of, Joining, lines_of}
 use Rattle.restructured_text.proofs.BlockLaws.{lines_end, lines-further}
 use Rattle.targetless.specs.Verdict.{joined_of}
@@ -57,7 +55,7 @@ labelled-before x y w =
     (lt-or-le 0 (word_of x))
 
 -- a line's end
-ending-ended : (l : List ℕ) (j : ℕ) → line_ending_of l ≡ Taken j → Ended l
+ending-ended : (l : List ℕ) (j : ℕ) → line_ending_of l ≡ Some j → Ended l
 unfolding line_ending_of is_ascii_word
 ending-ended [] j e = tt
 ending-ended (b ∷ l) j e =
@@ -69,7 +67,7 @@ ending-ended (b ∷ l) j e =
     (either (eqb b 13)))
     (either (eqb b 10))
 
-line-ended : (s : List ℕ) (n : ℕ) → not_line_ending_of s ≡ Taken n → Ended (drop n s)
+line-ended : (s : List ℕ) (n : ℕ) → not_line_ending_of s ≡ Some n → Ended (drop n s)
 line-ended s n e =
     ⊎_elim
     (λ h. ⊎_elim (λ f. ending-ended (drop n s) 1 f) (λ f. ending-ended (drop n s) 2 f) (not-line-ending-end s n e h))
@@ -81,11 +79,11 @@ lines-ended : (indent s : List ℕ) → Ended (lines_of indent 0 s).text
 unfolding is_ascii_word
 lines-ended indent s = go (further_of indent s) refl
   where
-    go : (x : Line) → further_of indent s ≡ x → Ended (lines_of indent 0 s).text
-    go (Further a n) e = subst⁻¹ (λ (j : Joining). Ended j.text) (lines-further indent s a n e) (omega arith, refl)
-    go End e = subst⁻¹ (λ (j : Joining). Ended j.text) (lines_end indent s e) tt
+    go : (x : Option (ℕ × ℕ)) → further_of indent s ≡ x → Ended (lines_of indent 0 s).text
+    go (Some (a, n)) e = subst⁻¹ (λ (j : Joining). Ended j.text) (lines-further indent s a n e) (omega arith, refl)
+    go None e = subst⁻¹ (λ (j : Joining). Ended j.text) (lines_end indent s e) tt
 
-pub word-joined : (indent s : List ℕ) (n : ℕ) → not_line_ending_of s ≡ Taken n → word_labelled s ≡ false → word_labelled (joined_of indent n s) ≡ false
+pub word-joined : (indent s : List ℕ) (n : ℕ) → not_line_ending_of s ≡ Some n → word_labelled s ≡ false → word_labelled (joined_of indent n s) ≡ false
 word-joined indent s n e f =
     labelled-before (take n s) (lines_of indent 0 (drop n s)).text (lines-ended indent (drop n s))
     ∙ sym (labelled-before (take n s) (drop n s) (line-ended s n e))

@@ -1,17 +1,16 @@
 -- What the contracts of private functions speak of: the runs that tell whether a block's text is a target.
 -- Assumes nothing.
+use Rattle.std.specs.Prelude.{Option, Some, None}
 use Rattle.std.specs.Prelude.{ℕ, ◌+◌, ◌-◌, ◌*◌, ◌≤◌, List, [], ◌∷◌, Bool, true, false, ◌&&◌, ◌||◌, not, eqb, leb, ltb, length, get_or, drop, take, ◌≡◌}
 use Rattle.rst_bytes.specs.Escaped.{is_escapable, taking}
 use Rattle.rst_bytes.specs.Line.{not_line_ending_of}
 use Rattle.rst_bytes.specs.Tag.{starts_with}
 use Rattle.rst_bytes.specs.Word.{word_of}
-use Rattle.rst_bytes.specs.declared.Part.{Part}
-use Rattle.rst_bytes.specs.declared.Part.TheVariants.{Taken, Refused}
-use Rattle.restructured_text.specs.Definition.{raw_of}
+use Rattle.restructured_text.specs.Definition.{raw_of, raw_span}
 use Rattle.restructured_text.specs.Delimited.{backticked_of}
 use Rattle.restructured_text.specs.Inner.{is_refused}
 use Rattle.restructured_text.specs.Label.{label_len_max}
-use Rattle.restructured_text.specs.Strings.{none}
+use Rattle.restructured_text.specs.Strings.{none, part}
 use Rattle.restructured_text.specs.Target.{named_of}
 use Rattle.restructured_text.specs.Transform.{is_destination_escapable, kept_of}
 use Rattle.targetless.specs.declared.Size.{Size}
@@ -20,7 +19,7 @@ use Rattle.targetless.specs.Verdict.{joined_of, Blank, everything, nothing, lone
 
 -- the target that stands here, an alias's or a destination, is refused
 unfoldable pub is_dead : List ℕ → Bool
-is_dead s = is_refused (kept_of (take (raw_of s).len (drop (raw_of s).start s)))
+is_dead s = is_refused (kept_of (part (raw_span (raw_of s)) s))
 
 -- a `.. ` block with this text gives no target
 abbrev pub Unnamed : List ℕ → Type 0
@@ -50,9 +49,9 @@ abbrev pub label_run : List ℕ → Bool
 label_run s = run 0x60 (escapable_of false) label_stop true true s
 
 -- a label of these bytes is too long, or there is none
-abbrev pub is_long : Part → Bool
-is_long (Taken n) = ltb label_len_max n
-is_long Refused = true
+abbrev pub is_long : Option ℕ → Bool
+is_long (Some n) = ltb label_len_max n
+is_long None = true
 
 -- behind a backtick no label stands that is taken whole: none is closed, or it is refused, or it is too long
 abbrev pub no_label : List ℕ → Bool
@@ -61,14 +60,14 @@ no_label s = label_run s || is_long (backticked_of false (0x60 ∷ s))
 -- a label that goes on with this text and that a backtick closes has so many bytes up to it, for an indent that has m bytes with three spaces
 abbrev pub SizeOf : Size → ℕ → List ℕ → Type 0
 SizeOf z m text =
-    (k : ℕ) → taking 0x60 0x60 false 0 text ≡ Taken k → starts_with (0x60 ∷ []) (drop k text) ≡ true → k + z.ends * m ≡ z.kept
+    (k : ℕ) → taking 0x60 0x60 false 0 text ≡ Some k → starts_with (0x60 ∷ []) (drop k text) ≡ true → k + z.ends * m ≡ z.kept
 
 -- the same of each text that begins with s
 abbrev pub Sized : Size → List ℕ → Type 0
 Sized z s =
     (z.kept ≤ length s)
     × (z.ends ≤ length s)
-    × ((indent : List ℕ) (n : ℕ) → Blank indent → not_line_ending_of s ≡ Taken n → SizeOf z (length indent + 3) (joined_of indent n s))
+    × ((indent : List ℕ) (n : ℕ) → Blank indent → not_line_ending_of s ≡ Some n → SizeOf z (length indent + 3) (joined_of indent n s))
 
 -- this colon ends no name, or the target behind it is refused
 abbrev pub plain_stop : List ℕ → Bool

@@ -1,12 +1,10 @@
 -- What the contracts of private functions speak of: verdicts on the texts that stand from a place on, for all indents that their block may have.
 -- Assumes nothing.
+use Rattle.std.specs.Prelude.{Option, Some, None}
 use Rattle.std.specs.Prelude.{ℕ, ◌+◌, ◌-◌, ◌/◌, ◌^◌, ◌<◌, ◌≡◌, List, [], ◌∷◌, ◌++◌, Bool, true, false, ◌||◌, eqb, leb, ltb, length, get_or, drop, take}
 use Rattle.std.specs.Int.Bits.{bit_and, bit_or}
 use Rattle.rst_bytes.specs.Line.{is_space, not_line_ending_of}
 use Rattle.rst_bytes.specs.Tag.{starts_with}
-use Rattle.rst_bytes.specs.declared.Part.TheVariants.{Taken}
-use Rattle.restructured_text.specs.declared.block.Line.{Line}
-use Rattle.restructured_text.specs.declared.block.Line.TheVariants.{Further, End}
 use Rattle.restructured_text.specs.Block.{three, further_of, lines_of}
 use Rattle.targetless.specs.declared.Verdict.{Verdict}
 
@@ -15,9 +13,9 @@ abbrev pub joined_of : List ℕ → ℕ → List ℕ → List ℕ
 joined_of indent n s = take n s ++ (lines_of indent 0 (drop n s)).text
 
 -- whether a further line follows
-abbrev pub is_further : Line → Bool
-is_further (Further a n) = true
-is_further End = false
+abbrev pub is_further : Option (ℕ × ℕ) → Bool
+is_further (Some (a, n)) = true
+is_further None = false
 
 -- spaces and tabs
 abbrev pub Blank : List ℕ → Type 0
@@ -93,7 +91,7 @@ over_of next lone shared =
 -- the verdict is true of the test of each text that begins with s
 abbrev pub Tells : (List ℕ → Bool) → Verdict → List ℕ → Type 0
 Tells f v s =
-    (indent : List ℕ) (n : ℕ) → Blank indent → not_line_ending_of s ≡ Taken n
+    (indent : List ℕ) (n : ℕ) → Blank indent → not_line_ending_of s ≡ Some n
     → judged_of v (is_further (further_of indent (drop n s))) (length indent) ≡ true → f (joined_of indent n s) ≡ true
 
 -- a run over a text, up to a stop or a wrong escape
@@ -121,7 +119,7 @@ escape_of ok wrong near far (b ∷ c ∷ rest) =
 -- a further line follows just if the next line, at place next of s, begins with the indent and three spaces
 abbrev pub Follows : ℕ → List ℕ → List ℕ → Type 0
 Follows next whole s =
-    (indent : List ℕ) (n : ℕ) → Blank indent → not_line_ending_of s ≡ Taken n
+    (indent : List ℕ) (n : ℕ) → Blank indent → not_line_ending_of s ≡ Some n
     → is_further (further_of indent (drop n s)) ≡ starts_with (indent ++ three) (drop next whole)
 
 -- the first bytes at both places are the same blanks, and no more of them

@@ -1,9 +1,9 @@
 -- What the contracts of private functions speak of: what is kept at a place while a text is gone through from its end to its front.
 -- Assumes nothing.
+use Rattle.std.specs.Prelude.{Some, None}
 use Rattle.std.specs.Prelude.{ℕ, ◌+◌, ◌-◌, ◌≤◌, ◌<◌, ◌≡◌, List, [], ◌∷◌, true, false, ◌⊎◌, leb, length, drop, get_or}
 use Rattle.rst_bytes.specs.Line.{is_space, space0_of, not_line_ending_of}
 use Rattle.rst_bytes.specs.Tag.{starts_with}
-use Rattle.rst_bytes.specs.declared.Part.TheVariants.{Taken, Refused}
 use Rattle.targetless.specs.declared.Verdict.{Verdict}
 use Rattle.targetless.specs.declared.Size.{Size}
 use Rattle.targetless.specs.declared.State.{State}
@@ -58,8 +58,8 @@ Walked w i s =
     × Tells is_dead w.front (drop (i + space0_of (drop i s)) s)
     × (w.next ≤ length s)
     × Follows w.next s (drop i s)
-    × (w.broken ≡ true → not_line_ending_of (drop i s) ≡ Refused)
-    × (w.broken ≡ false → (n : ℕ) × (not_line_ending_of (drop i s) ≡ Taken n))
+    × (w.broken ≡ true → not_line_ending_of (drop i s) ≡ None)
+    × (w.broken ≡ false → (n : ℕ) × (not_line_ending_of (drop i s) ≡ Some n))
 
 -- blanks stand from place k on up to place h
 abbrev pub Indented : ℕ → ℕ → List ℕ → Type 0

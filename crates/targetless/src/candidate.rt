@@ -2,7 +2,6 @@
 ghost use Rattle.std.specs.Prelude.{◌≡◌, ◌++◌, true, ℕ, ◌+◌, ◌-◌, ◌≤◌, ◌<◌, length, drop, get_or};
 ghost use Rattle.rst_bytes.specs.Line.{not_line_ending_of};
 ghost use Rattle.rst_bytes.specs.Tag.{starts_with};
-ghost use Rattle.rst_bytes.specs.declared.Part.TheVariants.{Taken};
 ghost use Rattle.restructured_text.specs.Block.{three, further_of};
 ghost use Rattle.targetless.specs.Targetless.{NoTarget};
 ghost use Rattle.targetless.specs.Verdict.{joined_of, is_further, Blank};
@@ -49,8 +48,8 @@ fn is_unnamed(s: &[u8], e: usize, indent: &[u8], w: Walk, on: bool) -> bool
     requires here { (e < length s.now) × (get_or s.now e 0 ≡ 0x5F) }
     requires walked { Walked w (e + 1) s.now }
     requires blank { Blank indent.now }
-    requires on { (n : ℕ) → not_line_ending_of (drop e s.now) ≡ Taken n → on ≡ is_further (further_of indent.now (drop n (drop e s.now))) }
-    ensures { result ≡ true → (n : ℕ) → not_line_ending_of (drop e s.now) ≡ Taken n → Unnamed (joined_of indent.now n (drop e s.now)) }
+    requires on { (n : ℕ) → not_line_ending_of (drop e s.now) ≡ Some n → on ≡ is_further (further_of indent.now (drop n (drop e s.now))) }
+    ensures { result ≡ true → (n : ℕ) → not_line_ending_of (drop e s.now) ≡ Some n → Unnamed (joined_of indent.now n (drop e s.now)) }
 {
     let k = indent.len();
     let v = &s[e..];

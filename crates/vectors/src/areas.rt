@@ -1,45 +1,43 @@
-// Lent areas: what they hold before a call, and whether they hold it behind one.
+// What the replayed calls are lent.
 
-// The byte in each place.
-pub fn fill_bytes(bytes: &mut [u8], b: u8) {
-    let mut i = 0;
-    while i < bytes.len() {
-        bytes[i] = b;
-        i = i + 1;
-    }
+ghost use Rattle.std.specs.Prelude.{◌≡◌, ◌&&◌, length, take, drop, nat_le};
+ghost use Rattle.std.specs.List.{list_all};
+
+// Buffers and areas as long as any that is recorded; no heap.
+#[derive(Drop)]
+pub struct Areas {
+    pub first: [u8; 16384],
+    pub second: [u8; 16384],
+    pub numbers: [u32; 4200],
+    pub bytes: [u8; 49300],
+    pub output: [u8; 8192],
 }
 
-// The number in each place.
-pub fn fill_numbers(numbers: &mut [u32], n: u32) {
-    let mut i = 0;
-    while i < numbers.len() {
-        numbers[i] = n;
-        i = i + 1;
-    }
-}
-
-// Whether the byte stands in each place.
-pub fn all_bytes(bytes: &[u8], b: u8) -> bool {
-    let mut i = 0;
-    while i < bytes.len() {
-        let c = bytes[i];
-        if c != b {
-            return false;
+impl Default for Areas {
+    fn default() -> Areas {
+        Areas {
+            first: [0; 16384],
+            second: [0; 16384],
+            numbers: [0; 4200],
+            bytes: [0; 49300],
+            output: [0; 8192],
         }
-        i = i + 1;
     }
-    true
 }
 
-// Whether the number stands in each place.
-pub fn all_numbers(numbers: &[u32], n: u32) -> bool {
-    let mut i = 0;
-    while i < numbers.len() {
-        let m = numbers[i];
-        if m != n {
-            return false;
-        }
-        i = i + 1;
+// Whether each place holds the value.
+pub fn all_are<T: PartialEq>(area: &[T], value: &T) -> bool
+    ensures { result ≡ list_all (λ x. T.eq x value.now) area.now }
+{
+    area.iter().all(|x| x == value)
+}
+
+// Whether the first n places hold one value, and those behind them another.
+pub fn holds<T: PartialEq>(area: &[T], n: usize, front: &T, behind: &T) -> bool
+    ensures { result ≡ (nat_le n (length area.now) && (list_all (λ x. T.eq x front.now) (take n area.now) && list_all (λ x. T.eq x behind.now) (drop n area.now))) }
+{
+    match area.split_at_checked(n) {
+        Some((a, b)) => all_are(a, front) && all_are(b, behind),
+        None => false,
     }
-    true
 }

@@ -5,86 +5,72 @@
 mod areas;
 mod document;
 mod documents;
-mod number;
-mod parsers;
-mod replay;
+mod parser;
+mod piece;
+mod records;
+mod rest;
 mod single;
+mod tally;
 
-ghost use Rattle.std.specs.Io.{ReadsAtMost};
+ghost use Rattle.std.specs.Prelude.{◌≤◌, length, IfOk};
 
+use crate::areas::Areas;
+use crate::documents::Tallies;
+use crate::parser::Parser;
+use crate::piece::Piece;
+use crate::records::Records;
+use crate::rest::Rest;
+use crate::tally::Tally;
 use filling::read_full;
 use std::rt::Files;
 use std::{fs, io};
 
-// Reads a file, as far as the buffer holds it, and says how many bytes that are.
-fn load<R: Files>(rt: &R, name: &str, buf: &mut [u8]) -> io::Result<usize>
-    ensures { ReadsAtMost result buf.new }
+// Reads a file, as far as the buffer holds it: the count that it begins with, and what follows.
+fn load<'a, R: Files>(rt: &R, name: &str, buf: &'a mut [u8]) -> io::Result<(usize, Rest<'a>)>
+    ensures { IfOk result (λ p. length p.1.left.now ≤ length buf.old) }
 {
     let mut file = fs::open(rt, name)?;
-    read_full(&mut file, buf)
-}
-
-// Writes how many answers of a file are recorded, and how many agree.
-fn say(rt: &impl Print, name: &str, recorded: usize, right: usize) -> io::Result<()> {
-    println!(rt; "{name}: {recorded} recorded, {right} agree")
+    let n = read_full(&mut file, buf)?;
+    let mut rest = Rest { left: &buf[..n] };
+    let recorded = rest.four().unwrap_or(0) as usize;
+    Ok((recorded, rest))
 }
 
 // The pieces' answers.
-fn replay_pieces<R: Files + Print>(rt: &R, data: &mut [u8]) -> io::Result<()> {
-    let n = load(rt, "pieces.bin", data)?;
-    say(
-        rt,
-        "pieces",
-        number::four(data, 0),
-        replay::replay(&data[..n]),
-    )
+fn replay_pieces<R: Files + Print>(rt: &R, buf: &mut [u8]) -> io::Result<()> {
+    let (recorded, rest) = load(rt, "pieces.bin", buf)?;
+    let agree = Records::from(rest).filter(Piece::agrees).count();
+    let tally = Tally { recorded, agree };
+    println!(rt; "pieces: {tally}")
 }
 
-// The parsers' answers.
-fn replay_parsers<R: Files + Print>(rt: &R, data: &mut [u8]) -> io::Result<()> {
-    let n = load(rt, "parsers.bin", data)?;
-    let mut scratch = [0u8; 4096];
-    say(
-        rt,
-        "parsers",
-        number::four(data, 0),
-        parsers::replay(&data[..n], &mut scratch),
-    )
+// The parsers' answers; the scratch is as long as any that is recorded.
+fn replay_parsers<R: Files + Print>(rt: &R, buf: &mut [u8]) -> io::Result<()> {
+    let (recorded, rest) = load(rt, "parsers.bin", buf)?;
+    let mut scratch = [0; 4096];
+    let agree = Records::from(rest)
+        .filter(|parser: &Parser| parser.agrees(&mut scratch))
+        .count();
+    let tally = Tally { recorded, agree };
+    println!(rt; "parsers: {tally}")
 }
 
-// The answers of both calls, over buffers and areas as long as any that is recorded.
-fn both_calls(s: &[u8]) -> documents::Walk {
-    let mut first = [0u8; 16384];
-    let mut second = [0u8; 16384];
-    let mut numbers = [0u32; 4200];
-    let mut bytes = [0u8; 49300];
-    let mut output = [0u8; 8192];
-    documents::replay(
-        s,
-        &mut first,
-        &mut second,
-        &mut numbers,
-        &mut bytes,
-        &mut output,
-    )
-}
-
-// How many of each there are, and how many agree.
-fn replay_calls<R: Files + Print>(rt: &R, data: &mut [u8]) -> io::Result<()> {
-    let n = load(rt, "documents.bin", data)?;
-    let walk = both_calls(&data[..n]);
-    say(rt, "single-link calls", walk.singles, walk.singles_right)?;
-    say(rt, "document calls", walk.documents, walk.documents_right)
+// The answers of both calls.
+fn replay_calls<R: Files + Print>(rt: &R, buf: &mut [u8]) -> io::Result<()> {
+    let (_, rest) = load(rt, "documents.bin", buf)?;
+    let Tallies { singles, documents } = documents::replay(rest, &mut Areas::default());
+    println!(rt; "single-link calls: {singles}")?;
+    println!(rt; "document calls: {documents}")
 }
 
 // All of them, one file after the other.
-fn replay_all<R: Files + Print>(rt: &R, data: &mut [u8]) -> io::Result<()> {
-    replay_pieces(rt, data)?;
-    replay_parsers(rt, data)?;
-    replay_calls(rt, data)
+fn replay_all<R: Files + Print>(rt: &R, buf: &mut [u8]) -> io::Result<()> {
+    replay_pieces(rt, buf)?;
+    replay_parsers(rt, buf)?;
+    replay_calls(rt, buf)
 }
 
+// A fixed buffer for the files: with a heap, C's functions for it would be trusted too.
 fn main(rt: HostRuntime) -> io::Result<()> {
-    let mut data = [0u8; 655360];
-    replay_all(&rt, &mut data)
+    replay_all(&rt, &mut [0; 655360])
 }

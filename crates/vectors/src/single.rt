@@ -1,43 +1,58 @@
 // The single-link call: whether it answers what is recorded.
-use crate::number::{four, one, two};
-use crate::parsers::begins;
+
+use crate::areas::Areas;
+use crate::records::Record;
+use crate::rest::Rest;
 use rstlinks_c::{Taken, rst_take_link};
 
-// Whether an answer's numbers are those recorded.
-fn same_numbers(t: &[u8], now: Taken) -> bool {
-    now.number as usize == one(t, 9)
-        && (now.bytes as usize == two(t, 10)
-            && (now.kind as usize == one(t, 12)
-                && (now.skipped as usize == two(t, 13)
-                    && (now.consumed as usize == two(t, 15)
-                        && (now.first as usize == two(t, 17)
-                            && now.second as usize == two(t, 19))))))
+// A single-link call, and what it answers.
+#[derive(Clone, Copy)]
+pub struct SingleCall<'a> {
+    place: usize,
+    first_len: usize,
+    second_len: usize,
+    answer: Taken,
+    first: &'a [u8],
+    second: &'a [u8],
 }
 
-// Whether the buffers begin with the strings recorded.
-fn same_strings(t: &[u8], first: &[u8], second: &[u8]) -> bool {
-    let a = 21 + two(t, 17);
-    let b = a + two(t, 19);
-    if t.len() < b {
-        return false;
+impl<'a> Record<'a> for SingleCall<'a> {
+    fn read(rest: &mut Rest<'a>) -> Option<Self> {
+        let place = rest.four()? as usize;
+        let first_len = usize::from(rest.two()?);
+        let second_len = usize::from(rest.two()?);
+        let answer = Taken {
+            number: u32::from(rest.one()?),
+            bytes: u32::from(rest.two()?),
+            kind: u32::from(rest.one()?),
+            skipped: u32::from(rest.two()?),
+            consumed: u32::from(rest.two()?),
+            first: u32::from(rest.two()?),
+            second: u32::from(rest.two()?),
+        };
+        Some(SingleCall {
+            place,
+            first_len,
+            second_len,
+            answer,
+            first: rest.bytes(answer.first as usize)?,
+            second: rest.bytes(answer.second as usize)?,
+        })
     }
-    begins(first, &t[21..a]) && begins(second, &t[a..b])
 }
 
-// Whether the call answers what is recorded; the buffers hold what earlier calls left in them.
-pub fn agrees(document: &[u8], t: &[u8], first: &mut [u8], second: &mut [u8]) -> bool {
-    let a = two(t, 5);
-    let b = two(t, 7);
-    if first.len() < a {
-        return false;
+impl SingleCall<'_> {
+    // What the call answers, with as much of each buffer as is recorded; they hold what earlier calls left in them.
+    fn call(&self, document: &[u8], areas: &mut Areas) -> Option<Taken> {
+        let first = areas.first.get_mut(..self.first_len)?;
+        let second = areas.second.get_mut(..self.second_len)?;
+        Some(rst_take_link(document, self.place, first, second))
     }
-    if second.len() < b {
-        return false;
-    }
-    let now = rst_take_link(document, four(t, 1), &mut first[0..a], &mut second[0..b]);
-    if same_numbers(t, now) {
-        same_strings(t, first, second)
-    } else {
-        false
+
+    // Whether the call answers what is recorded, and the buffers begin with the strings recorded.
+    pub fn agrees(&self, document: &[u8], areas: &mut Areas) -> bool {
+        self.call(document, areas) == Some(self.answer)
+            && areas.first.starts_with(self.first)
+            && areas.second.starts_with(self.second)
     }
 }

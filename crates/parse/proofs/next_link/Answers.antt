@@ -3,105 +3,77 @@
 -- round ends the scan, or passes some bytes: the measure is what is left.
 -- Where it ends with a link, what was known in front of it is true behind it, and what is told of blocks there is true.
 -- Assumes nothing.
-use mathlib.Core.Path.{refl, sym, subst, subst⁻¹, ◌∙◌}
-use native.Mathlib.Omega.{arith}
-use Rattle.parse.specs.Link.{Ends}
+use Rattle.std.proofs.Common.{refl, sym, ◌∙◌, arith}
 use Rattle.parse.specs.Forms.{rst}
 use Rattle.parse.specs.Scan.{scan_with, scan_of}
-use Rattle.parse.specs.Inner.{StepEnds, StepHolds}
 use Rattle.parse.proofs.ScanLaws.{rounds-end}
-use Rattle.parse.proofs.BacktickLaws.{holds_later}
-use Rattle.parse.proofs.OnwardLaws.{found_within, found-holds}
-use Rattle.parse.proofs.RoundLaws.{is-scanned, step-stops, step-passes, lent-short, lent-enough}
+use Rattle.parse.proofs.OnwardLaws.{found_within}
+use Rattle.parse.proofs.RoundLaws.{scanned_is, step-stops, step-passes, lent-enough}
 use Rattle.parse.proofs.next_link.Goals as goal
-
-pub next_of-requires : goal.next_of-requires
-next_of-requires c = record { within = tt; free = refl }
-
-pub returns-then-scratch-s : goal.returns-then-scratch-s
-returns-then-scratch-s c =
-    let w = c.args in
-    let a = c.next_of.ensures in
-    record {
-      scan = sym (is-scanned a.scan w.scratch.now) ∙ lent-short w.s.now w.scratch.now (scan_of w.s.now) c.if-scratch-s.true;
-      ends = subst⁻¹ Ends a.scan tt;
-      known = a.known w.marks.now tt;
-    }
 
 pub loop-i-init : goal.loop-i-init
 unfolding scan_of scan_with
-loop-i-init c = (omega arith, refl, refl, c.requires.known, refl)
+loop-i-init c =
+    record {
+      inside = omega arith;
+      room = refl;
+      scan = refl;
+      known = c.requires.known;
+      marks = refl;
+    }
 
-pub loop-i-preserved-then-i-ahead : goal.loop-i-preserved-then-i-ahead
-loop-i-preserved-then-i-ahead c =
-    let l = c.loop-i in
-    let a = c.calm-ahead.ensures in
-    (a.1, l.invariant.1, l.invariant.2 ∙ a.2 c.if-i-ahead.true, holds_later _ l.marks l.i _ l.known a.0 l.invariant.3, l.invariant.4)
+pub invariant_of-place : goal.invariant_of-place
+invariant_of-place c =
+    let v = c.loop-i.invariant in
+    record { inside = v.inside; barred = (c.mark.ensures _ v.known).3 }
 
 pub round-requires : goal.round-requires
 round-requires c =
     let v = c.loop-i.invariant in
-    record {
-      room = (v.0, omega (arith, v.1, c.if-scratch-s.false));
-      known = c.marking-known.ensures _ v.3;
-    }
+    record { room = omega (arith, v.room, c.if-scratch-s.false); known = c.mark.ensures _ v.known }
 
-pub next_of-requires-in-Stops : goal.next_of-requires-in-Stops
-next_of-requires-in-Stops c =
+pub next_of-requires : goal.next_of-requires
+next_of-requires c =
     let s = c.args.s.now in
     let l = c.loop-i in
-    record {
-      within = found_within s l.i l.input_start c.round.new.scratch c.in-Stops.x l.invariant.0 (step-stops l.input_start s l.i c.loop-i-test.true c.round.result c.round.new.scratch c.round.ensures.step _ _ _ c.in-Stops.is);
-      free = subst (StepHolds s c.marking-known.new.marks) c.in-Stops.is c.round.ensures.known;
-    }
+    let r = c.round in
+    found_within s l.i l.input_start r.new.scratch _ l.invariant.inside (step-stops l.input_start s l.i c.loop-i-test.true r.result r.new.scratch r.ensures.step _ c.in-Break.is)
 
-pub shape_of-scratch-in-Stops : goal.shape_of-scratch-in-Stops
-shape_of-scratch-in-Stops c = omega (arith, c.loop-i.invariant.1, c.round.auto.scratch)
-
-pub shape_of-marks-in-Stops : goal.shape_of-marks-in-Stops
-shape_of-marks-in-Stops c = omega (arith, c.loop-i.invariant.4, c.marking-known.auto.marks)
-
-pub returns-in-Stops : goal.returns-in-Stops
-returns-in-Stops c =
+pub returns-in-Break-clause-scan : goal.returns-in-Break-clause-scan
+returns-in-Break-clause-scan c =
     let w = c.args in
     let l = c.loop-i in
-    let a = c.next_of-in-Stops.ensures in
-    let e = step-stops l.input_start w.s.now l.i c.loop-i-test.true c.round.result c.round.new.scratch c.round.ensures.step _ _ _ c.in-Stops.is in
-    record {
-      scan = sym (is-scanned a.scan c.round.new.scratch) ∙ e ∙ sym l.invariant.2 ∙ lent-enough w.s.now w.scratch.now (scan_of w.s.now) c.if-scratch-s.false;
-      ends = subst⁻¹ Ends a.scan (subst StepEnds c.in-Stops.is c.round.ensures.ends);
-      known = a.known c.marking-known.new.marks (found-holds w.s.now _ l.i l.input_start c.marking-known.result c.round.new.scratch c.in-Stops.x (c.marking-known.ensures _ l.invariant.3) e);
-    }
+    let r = c.round in
+    scanned_is _ _ r.new.scratch c.next_of.ensures.scan
+    ∙ step-stops l.input_start w.s.now l.i c.loop-i-test.true r.result r.new.scratch r.ensures.step _ c.in-Break.is
+    ∙ sym l.invariant.scan
+    ∙ lent-enough w.s.now w.scratch.now (scan_of w.s.now) c.if-scratch-s.false
 
-pub loop-i-smaller : goal.loop-i-smaller
-loop-i-smaller c =
-    let s = c.args.s.now in
+pub loop-i-smaller-in-Continue : goal.loop-i-smaller-in-Continue
+loop-i-smaller-in-Continue c =
     let l = c.loop-i in
-    let p = step-passes l.input_start s l.i c.loop-i-test.true c.round.result c.round.new.scratch c.round.ensures.step _ _ c.in-Passes.is in
+    let r = c.round in
+    let p = step-passes l.input_start c.args.s.now l.i c.loop-i-test.true r.result r.new.scratch r.ensures.step _ c.in-Continue.is in
     omega (arith, p.1, p.2)
 
-pub loop-i-preserved : goal.loop-i-preserved
-loop-i-preserved c =
-    let s = c.args.s.now in
+pub loop-i-preserved-in-Continue : goal.loop-i-preserved-in-Continue
+loop-i-preserved-in-Continue c =
     let l = c.loop-i in
-    let p = step-passes l.input_start s l.i c.loop-i-test.true c.round.result c.round.new.scratch c.round.ensures.step _ _ c.in-Passes.is in (
-      p.2,
-      omega (arith, l.invariant.1, c.round.auto.scratch),
-      l.invariant.2 ∙ p.0,
-      subst (StepHolds s c.marking-known.new.marks) c.in-Passes.is c.round.ensures.known,
-      omega (arith, l.invariant.4, c.marking-known.auto.marks),
-    )
+    let r = c.round in
+    let p = step-passes l.input_start c.args.s.now l.i c.loop-i-test.true r.result r.new.scratch r.ensures.step _ c.in-Continue.is in
+    record {
+      inside = p.2;
+      room = omega (arith, l.invariant.room, r.auto.scratch);
+      scan = l.invariant.scan ∙ p.0;
+      known = c.in-Continue.ensures.known;
+      marks = omega (arith, l.invariant.marks, c.mark.auto.marks);
+    }
 
-pub next_of-requires-2 : goal.next_of-requires-2
-next_of-requires-2 c = record { within = tt; free = refl }
-
-pub returns : goal.returns
-returns c =
+pub returns-clause-scan : goal.returns-clause-scan
+returns-clause-scan c =
     let w = c.args in
     let l = c.loop-i in
-    let a = c.next_of-2.ensures in
-    record {
-      scan = sym (is-scanned a.scan l.scratch) ∙ sym (l.invariant.2 ∙ rounds-end rst l.input_start w.s.now l.i (omega arith)) ∙ lent-enough w.s.now w.scratch.now (scan_of w.s.now) c.if-scratch-s.false;
-      ends = subst⁻¹ Ends a.scan tt;
-      known = a.known l.marks tt;
-    }
+    sym (l.invariant.scan ∙ rounds-end rst l.input_start w.s.now l.i (omega arith)) ∙ lent-enough w.s.now w.scratch.now (scan_of w.s.now) c.if-scratch-s.false
+
+pub returns-in-Break-clause-known : goal.returns-in-Break-clause-known
+returns-in-Break-clause-known c = c.next_of.ensures.known c.mark.new.marks c.in-Break.ensures.known

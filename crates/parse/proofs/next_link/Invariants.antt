@@ -12,7 +12,14 @@ use Rattle.parse.specs.Inner.{Holds}
 use Rattle.parse.proofs.next_link.Given as goal
 
 abbrev pub invariant-loop-i : goal.invariant-loop-i
-invariant-loop-i l = (l.i ≤ length l.s) × (length l.scratch ≡ length l.initial.scratch) × (scan_of l.s ≡ rounds rst 0 l.input_start l.i (drop l.i l.s)) × Holds l.i l.known l.marks l.s × (length l.marks ≡ length l.initial.marks)
+invariant-loop-i l =
+    record {
+      inside : l.i ≤ length l.s;
+      room : length l.scratch ≡ length l.initial.scratch;
+      scan : scan_of l.s ≡ rounds rst 0 l.input_start l.i (drop l.i l.s);
+      known : Holds l.i l.known l.marks l.s;
+      marks : length l.marks ≡ length l.initial.marks;
+    }
 
 abbrev pub decreases-loop-i : goal.decreases-loop-i
 decreases-loop-i l = length l.s - l.i

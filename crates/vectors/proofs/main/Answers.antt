@@ -1,8 +1,6 @@
--- `main` is safe and returns: the slice that is lent is as long as the array, of which it is all.
--- Assumes nothing.
-use mathlib.Core.Path.{sym}
-use Prim.Native.Nat.{ℕ}
-use lib.ListN.{length-replicate}
+-- The slice that is lent is as long as the array, of which it is all.
+use Rattle.std.proofs.Common.{ℕ, sym}
+use Rattle.std.proofs.lemmas.List.{length-replicate}
 use Rattle.vectors.proofs.main.Goals as goal
 
 pub slice_bounds-replay_all-end : goal.slice_bounds-replay_all-end

@@ -1,11 +1,8 @@
--- `bucket` meets its contract. The loop's invariant, `Counting`: the bytes that are left lead from h to the bucket of the part.
+-- `names::bucket` meets its contract: the bytes that are left lead from h to the bucket of the name.
 -- Assumes nothing.
-use Prim.Native.Nat.{◌-◌}
-use Rattle.iterator.proofs.IndexLaws.{Counting}
+use Rattle.std.proofs.Common.{◌≡◌, ◌<◌, drop}
+use Rattle.iterator.specs.Index.{bucket_from, bucket_of}
 use Rattle.iterator.proofs.names.bucket.Given as goal
 
-abbrev pub invariant-loop-i : goal.invariant-loop-i
-invariant-loop-i l = Counting l.bytes l.initial.i l.end l.i l.h
-
-abbrev pub decreases-loop-i : goal.decreases-loop-i
-decreases-loop-i l = l.end - l.i
+abbrev pub invariant-loop-b : goal.invariant-loop-b
+invariant-loop-b l = record { small : l.h < 256; left : bucket_from l.h (drop l.b-index l.name) ≡ bucket_of l.name }

@@ -1,55 +1,18 @@
--- `forms::with_unreported` meets its contract: where no block is to be read there is none; else the reader of both blocks is lent what
--- stands behind the first n bytes, of the text and of the scratch. Where it finds neither, no block begins there.
+-- `forms::with_unreported` meets its contract: a destination block ends within the text.
 -- Assumes nothing.
-use mathlib.Core.Path.{refl}
-use native.Mathlib.Omega.{arith}
-use lib.ListN.{drop}
-use Rattle.restructured_text.proofs.TargetLaws.{label2label-room}
-use Rattle.parse.proofs.FormsLaws.{no_block, unreported-answered, unreported-found, unreported-none, unreported-le, front_kept}
-use Rattle.parse.proofs.BarredLaws.{no-block-unreported, free-nothing}
+use Rattle.std.proofs.Common.{◌+◌, ◌-◌, ◌≤◌, length, take, drop, arith, ap, length-drop, length-take}
+use Rattle.rst_bytes.proofs.Variants.{ok-is}
+use Rattle.restructured_text.specs.Definition.{destination_in}
+use Rattle.restructured_text.proofs.TargetLaws.{label2dest-consumed}
+use Rattle.parse.proofs.FormsLaws.{answered}
 use Rattle.parse.proofs.forms.with_unreported.Goals as goal
 
 pub overflow_add-result : goal.overflow_add-result
 overflow_add-result c =
-    let e = unreported-answered c.args.s.now c.args.n c.args.scratch.now c.rst_target.new.scratch c.rst_target.result _ c.requires.room c.rst_target.ensures.alias c.rst_target.ensures.destination c.in-Destination.is in
-    omega (arith, unreported-le c.args.s.now c.args.n _ _ _ c.requires.room.0 e.1)
-
-pub returns-in-Alias : goal.returns-in-Alias
-returns-in-Alias c =
-    let e = unreported-answered c.args.s.now c.args.n c.args.scratch.now c.rst_target.new.scratch c.rst_target.result _ c.requires.room c.rst_target.ensures.alias c.rst_target.ensures.destination c.in-Alias.is in
-    record {
-      consumed = unreported-none c.args.s.now c.args.n e.1;
-      kept = front_kept c.args.n c.args.scratch.now c.rst_target.new.scratch (omega (arith, c.requires.room));
-      free = free-nothing _;
-    }
-
-pub returns-in-Destination : goal.returns-in-Destination
-returns-in-Destination c =
-    let e = unreported-answered c.args.s.now c.args.n c.args.scratch.now c.rst_target.new.scratch c.rst_target.result _ c.requires.room c.rst_target.ensures.alias c.rst_target.ensures.destination c.in-Destination.is in
-    record {
-      consumed = unreported-found c.args.s.now c.args.n _ _ _ e.1;
-      kept = front_kept c.args.n c.args.scratch.now c.rst_target.new.scratch (omega (arith, c.requires.room));
-      free = free-nothing _;
-    }
-
-pub returns-in-NoDefinition : goal.returns-in-NoDefinition
-returns-in-NoDefinition c =
-    let e = unreported-answered c.args.s.now c.args.n c.args.scratch.now c.rst_target.new.scratch c.rst_target.result _ c.requires.room c.rst_target.ensures.alias c.rst_target.ensures.destination c.in-NoDefinition.is in
-    record {
-      consumed = unreported-none c.args.s.now c.args.n e.1;
-      kept = front_kept c.args.n c.args.scratch.now c.rst_target.new.scratch (omega (arith, c.requires.room));
-      free = λ h. no_block (drop c.args.n c.args.s.now) e.0 e.1;
-    }
-
-pub returns-in-Unread : goal.returns-in-Unread
-returns-in-Unread c = let e = unreported-answered c.args.s.now c.args.n c.args.scratch.now c.rst_target.new.scratch c.rst_target.result _ c.requires.room c.rst_target.ensures.alias c.rst_target.ensures.destination c.in-Unread.is in absurd (label2label-room _ e.0)
-
-pub returns : goal.returns
-returns c =
-    let s = c.args in
-    let f = c.may_begin.ensures c.if-may_begin.false in
-    record {
-      consumed = no-block-unreported s.s.now s.n f;
-      kept = refl;
-      free = λ h. f;
-    }
+    let p = c.args.place in
+    let n = c.args.n in
+    let s = c.further-rest.result.now in
+    let d = take (length c.args.scratch.now - n) (drop n c.args.scratch.now) in
+    let h : length s ≤ length d = omega (arith, ap length c.further-rest.ensures, length-drop (p.at + n) p.text.now, length-take (length c.args.scratch.now - n) (drop n c.args.scratch.now), length-drop n c.args.scratch.now, c.requires.ready.room) in
+    let e = answered s d _ _ _ _ h c.rst_target.ensures.destination (ap destination_in (ok-is c.in-Ok-Destination.field-0 c.in-Ok-Destination.is c.in-Ok-Destination.field-0-is)) in
+    omega (arith, (label2dest-consumed s _ _ _ e).1, ap length c.further-rest.ensures, length-drop (p.at + n) p.text.now, c.requires.link)

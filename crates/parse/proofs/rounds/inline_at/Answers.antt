@@ -1,32 +1,16 @@
 -- `rounds::inline_at` meets its contract: what `embedded_at` finds is the answer; where it finds none, what `reference_at` finds is.
 -- Assumes nothing.
-use lib.ListN.{drop}
-use Rattle.parse.proofs.RoundLaws.{inline-embedded, inline-reference, inline-room}
+use Rattle.std.proofs.Common.{◌∙◌}
+use Rattle.parse.specs.Place.{rest_of}
+use Rattle.parse.proofs.RoundLaws.{is-scanned, inline-embedded, inline-reference}
 use Rattle.parse.proofs.rounds.inline_at.Goals as goal
 
-pub returns-in-Found : goal.returns-in-Found
-returns-in-Found c =
-    let w = c.args in
-    record {
-      scan = inline-embedded w.i (drop w.i w.s.now) w.spaced c.embedded_at-found.result.scan c.embedded_at-found.new.scratch c.embedded_at-found.ensures.scan _ c.in-Found.is;
-      ends = c.embedded_at-found.ensures.ends;
-      free = c.embedded_at-found.ensures.free;
-    }
+pub returns-in-Some-clause-scan : goal.returns-in-Some-clause-scan
+returns-in-Some-clause-scan c =
+    let p = c.args.place in
+    is-scanned c.in-Some.is c.embedded_at.new.scratch ∙ inline-embedded p.at (rest_of p) c.args.spaced c.embedded_at.result c.embedded_at.new.scratch c.embedded_at.ensures.scan _ c.in-Some.is
 
-pub returns-in-NoRoom : goal.returns-in-NoRoom
-returns-in-NoRoom c =
-    let w = c.args in
-    record {
-      scan = inline-room w.i (drop w.i w.s.now) w.spaced c.embedded_at-found.result.scan c.embedded_at-found.new.scratch c.embedded_at-found.ensures.scan c.in-NoRoom.is;
-      ends = c.embedded_at-found.ensures.ends;
-      free = c.embedded_at-found.ensures.free;
-    }
-
-pub returns : goal.returns
-returns c =
-    let w = c.args in
-    record {
-      scan = inline-reference w.i (drop w.i w.s.now) w.spaced c.embedded_at-found.result.scan c.embedded_at-found.new.scratch c.embedded_at-found.ensures.scan _ c.in-NotFound.is c.reference_at.ensures.scan;
-      ends = c.reference_at.ensures.ends;
-      free = c.reference_at.ensures.free;
-    }
+pub returns-clause-scan : goal.returns-clause-scan
+returns-clause-scan c =
+    let p = c.args.place in
+    inline-reference p.at (rest_of p) c.args.spaced c.embedded_at.result c.embedded_at.new.scratch c.embedded_at.ensures.scan _ c.in_default.is c.reference_at.ensures.scan

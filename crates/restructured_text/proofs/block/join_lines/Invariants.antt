@@ -2,13 +2,12 @@
 -- stood there first with all lines, and what is left fits. A further line writes a space and its text, and reads more bytes than
 -- that. The measure is what is left.
 -- Assumes nothing.
-use Prim.Native.Nat.{◌-◌}
 use lib.ListN.{length}
 use Rattle.restructured_text.proofs.JoinLaws.{Joins}
 use Rattle.restructured_text.proofs.block.join_lines.Given as goal
 
 abbrev pub invariant-loop-a : goal.invariant-loop-a
-invariant-loop-a l = Joins l.indent l.s l.initial.d l.d l.m l.i l.n
+invariant-loop-a l = Joins l.indent l.s l.initial.d l.d l.rest l.m l.n
 
 abbrev pub decreases-loop-a : goal.decreases-loop-a
-decreases-loop-a l = length l.s - l.i
+decreases-loop-a l = length l.rest

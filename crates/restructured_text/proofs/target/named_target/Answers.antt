@@ -2,64 +2,71 @@
 -- the same parts of d, `transformed` gives their strings, and there is no target of the other kind. Where a wrong escape is seen in the target
 -- there is none.
 -- Assumes nothing.
-use mathlib.Core.Path.{sym, ◌∙◌}
+use mathlib.Core.Path.{sym, ap, subst⁻¹, ◌∙◌}
 use native.Mathlib.Omega.{arith}
 use lib.ListN.{take}
-use lib.Seq.{length-take-le}
+use Rattle.std.proofs.Common.{ℕ, List, Err}
 use Rattle.rst_bytes.proofs.Lists.{part-from}
-use Rattle.restructured_text.proofs.TargetLaws.{name-within, nameless, named-stands, named-inside, named-dead, named-told}
+use Rattle.rst_bytes.proofs.Variants.{ok_or-some, ok_or-none, err-left}
+use Rattle.restructured_text.specs.Inner.{is_refused}
+use Rattle.restructured_text.specs.Transform.{kept_of}
+use Rattle.restructured_text.specs.Definition.{told_as, is_alias}
+use Rattle.restructured_text.proofs.TargetLaws.{nameless, named-stands, named-inside, named-dead, named-told, told-err}
 use Rattle.restructured_text.proofs.target.named_target.Goals as goal
 
-pub slice_bounds-text-end : goal.slice_bounds-text-end
-slice_bounds-text-end c = sym (length-take-le c.args.len c.args.d.now (omega (arith, c.requires)))
+pub overflow_add-target : goal.overflow_add-target
+overflow_add-target c =
+    let name = sym c.target_name.ensures ∙ ok_or-some _ _ c.ok_or.ensures.value c.in_ok-name.was in
+    omega (arith, c.requires, (named-stands c.args.d.now c.args.len c.args.n c.requires _ _ name _ (part-from (take c.args.len c.args.d.now) _) _ c.of-raw.ensures _ c.span-span.ensures).1)
 
-pub returns-in_default : goal.returns-in_default
-returns-in_default c =
-    let pair = nameless c.args.d.now c.args.len c.args.n c.requires (sym c.target_name.ensures ∙ c.in_default.is) in
-    record {
-      alias = pair.0;
-      destination = pair.1.0;
-      ends = pair.1.1;
-    }
-
-pub slice_bounds-raw_target-count : goal.slice_bounds-raw_target-count
-slice_bounds-raw_target-count c = name-within _ _ _ (sym c.target_name.ensures ∙ c.in-Is.is)
-
-pub slice_bounds-raw_target-start : goal.slice_bounds-raw_target-start
-slice_bounds-raw_target-start c = name-within _ _ _ (sym c.target_name.ensures ∙ c.in-Is.is)
-
-pub overflow_add-b : goal.overflow_add-b
-overflow_add-b c =
-    let name = sym c.target_name.ensures ∙ c.in-Is.is in
-    omega (arith, c.requires, (named-stands c.args.d.now c.args.len c.args.n c.requires _ _ name _ (part-from (take c.args.len c.args.d.now) _) _ c.raw_target-raw.ensures).1)
-
-pub overflow_add-e : goal.overflow_add-e
-overflow_add-e c =
-    let name = sym c.target_name.ensures ∙ c.in-Is.is in
-    omega (arith, c.requires, (named-stands c.args.d.now c.args.len c.args.n c.requires _ _ name _ (part-from (take c.args.len c.args.d.now) _) _ c.raw_target-raw.ensures).1)
-
-pub slice_bounds-is_wrong-end : goal.slice_bounds-is_wrong-end
-slice_bounds-is_wrong-end c =
-    let name = sym c.target_name.ensures ∙ c.in-Is.is in
-    named-inside c.args.d.now c.args.len c.args.n c.requires _ _ name _ (part-from (take c.args.len c.args.d.now) _) _ c.raw_target-raw.ensures
-
-pub returns-then-is_wrong : goal.returns-then-is_wrong
-returns-then-is_wrong c =
-    let name = sym c.target_name.ensures ∙ c.in-Is.is in let pair = named-dead c.args.d.now c.args.len c.args.n c.requires _ _ name _ (part-from (take c.args.len c.args.d.now) _) _ c.raw_target-raw.ensures (sym c.is_wrong.ensures ∙ c.if-is_wrong.true) in
-    record {
-      alias = pair.0;
-      destination = pair.1.0;
-      ends = pair.1.1;
-    }
+pub of-requires : goal.of-requires
+of-requires c =
+    let name = sym c.target_name.ensures ∙ ok_or-some _ _ c.ok_or.ensures.value c.in_ok-name.was in
+    named-inside c.args.d.now c.args.len c.args.n c.requires _ _ name _ (part-from (take c.args.len c.args.d.now) _) _ c.of-raw.ensures _ c.span-span.ensures
 
 pub transformed-requires : goal.transformed-requires
 transformed-requires c =
-    let name = sym c.target_name.ensures ∙ c.in-Is.is in
-    named-stands c.args.d.now c.args.len c.args.n c.requires _ _ name _ (part-from (take c.args.len c.args.d.now) _) _ c.raw_target-raw.ensures
+    let name = sym c.target_name.ensures ∙ ok_or-some _ _ c.ok_or.ensures.value c.in_ok-name.was in
+    named-stands c.args.d.now c.args.len c.args.n c.requires _ _ name _ (part-from (take c.args.len c.args.d.now) _) _ c.of-raw.ensures _ c.span-span.ensures
+
+pub returns-in_err-name : goal.returns-in_err-name
+returns-in_err-name c =
+    let left = ok_or-none _ _ c.from_residual.result c.ok_or.ensures.value c.in_err-name.was c.from_residual.ensures in
+    let pair = nameless c.args.d.now c.args.len c.args.n c.requires (sym c.target_name.ensures ∙ left.0) in
+    rw left.1 (record {
+      alias = pair.0;
+      destination = pair.1.0;
+      ends = pair.1.1;
+    })
+
+pub returns-then-is_wrong : goal.returns-then-is_wrong
+returns-then-is_wrong c =
+    let name = sym c.target_name.ensures ∙ ok_or-some _ _ c.ok_or.ensures.value c.in_ok-name.was in
+    let wrong = ap (λ (v : List ℕ). is_refused (kept_of v)) (sym c.of.ensures) ∙ sym c.is_wrong.ensures ∙ c.if-is_wrong.true in
+    let pair = named-dead c.args.d.now c.args.len c.args.n c.requires _ _ name _ (part-from (take c.args.len c.args.d.now) _) _ c.of-raw.ensures _ c.span-span.ensures wrong in
+    record {
+      alias = pair.0;
+      destination = pair.1.0;
+      ends = pair.1.1;
+    }
+
+pub returns-in_err-found : goal.returns-in_err-found
+returns-in_err-found c =
+    let name = sym c.target_name.ensures ∙ ok_or-some _ _ c.ok_or.ensures.value c.in_ok-name.was in
+    let left = err-left c.from_residual-in_err-found.result c.from_residual-in_err-found.ensures in
+    let told = left ∙ told-err (is_alias c.of-raw.result) _ ∙ ap (told_as (is_alias c.of-raw.result)) (sym c.in_err-found.was) in
+    let pair = named-told c.args.d.now c.args.len c.args.n c.requires _ _ name _ (part-from (take c.args.len c.args.d.now) _) _ c.of-raw.ensures _ c.span-span.ensures c.transformed.new.d c.transformed.result _ c.transformed.ensures.strings c.transformed.ensures.ends told in
+    record {
+      alias = pair.0;
+      destination = pair.1.0;
+      ends = pair.1.1;
+    }
 
 pub returns : goal.returns
 returns c =
-    let name = sym c.target_name.ensures ∙ c.in-Is.is in let pair = named-told c.args.d.now c.args.len c.args.n c.requires _ _ name _ (part-from (take c.args.len c.args.d.now) _) _ c.raw_target-raw.ensures c.transformed.new.d c.transformed.result _ c.transformed.ensures.strings c.transformed.ensures.ends c.told.ensures in
+    let name = sym c.target_name.ensures ∙ ok_or-some _ _ c.ok_or.ensures.value c.in_ok-name.was in
+    let told = c.defines.ensures ∙ ap (told_as (is_alias c.of-raw.result)) (sym c.in_ok-found.was) in
+    let pair = named-told c.args.d.now c.args.len c.args.n c.requires _ _ name _ (part-from (take c.args.len c.args.d.now) _) _ c.of-raw.ensures _ c.span-span.ensures c.transformed.new.d c.transformed.result _ c.transformed.ensures.strings c.transformed.ensures.ends told in
     record {
       alias = pair.0;
       destination = pair.1.0;

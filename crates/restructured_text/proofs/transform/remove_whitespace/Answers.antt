@@ -4,55 +4,48 @@
 -- Assumes nothing.
 use mathlib.Core.Path.{sym, ◌∙◌}
 use native.Mathlib.Omega.{arith}
-use lib.Seq.{lt-length-set}
 use Rattle.restructured_text.proofs.TransformLaws.{kept-start, skip, write, write_two, ends-bad, ends-well, at-end, at-alone, at-wrong, at-two, at-blank, at-unblank}
 use Rattle.restructured_text.proofs.transform.remove_whitespace.Goals as goal
+use Rattle.restructured_text.proofs.transform.remove_whitespace.Goals.{then-not-is_multispace, else-not-is_multispace}
 
 pub loop-i-init : goal.loop-i-init
 loop-i-init c = kept-start _ _ c.bare-front.ensures
 
-pub shape_of-d-then-d-j : goal.shape_of-d-then-d-j
-shape_of-d-then-d-j c = c.loop-i.invariant.len
+pub returns-in_err-e : goal.returns-in_err-e
+returns-in_err-e c =
+    let l = c.loop-i in
+    let pair = ends-bad l.invariant (at-alone _ _ _ l.d l.i (omega arith) c.in_err-e.ensures.lookup.3 c.if-b-eq92.true) in
+    record {
+      answer = c.from_residual.ensures ∙ pair.0;
+      bytes = pair.1;
+    }
 
-pub returns-then-d-j : goal.returns-then-d-j
-returns-then-d-j c =
-    let l = c.loop-i in let pair = ends-bad l.invariant (at-alone _ _ _ l.d l.i (omega arith) (omega arith) c.if-b-eq92.true) in
+pub returns-then-not-is_destination_escapable : goal.returns-then-not-is_destination_escapable
+returns-then-not-is_destination_escapable c =
+    let l = c.loop-i in
+    let there = c.in_ok-e.ensures.lookup.3 in
+    let pair = ends-bad l.invariant (at-wrong _ _ _ l.d l.i _ there.0 c.if-b-eq92.true (there.1 0) (sym c.is_destination_escapable.ensures ∙ c.if-not-is_destination_escapable.true)) in
     record {
       answer = pair.0;
       bytes = pair.1;
     }
 
-pub bounds-d-m : goal.bounds-d-m
-bounds-d-m c = lt-length-set c.loop-i.d c.loop-i.n _ (omega arith)
-
-pub loop-i-preserved-then-is_destination_escapable : goal.loop-i-preserved-then-is_destination_escapable
-loop-i-preserved-then-is_destination_escapable c =
+pub loop-i-preserved-then-b-eq92 : goal.loop-i-preserved-then-b-eq92
+loop-i-preserved-then-b-eq92 c =
     let l = c.loop-i in
-    write_two l.invariant _ _ (omega arith) (at-two l.d l.i (omega arith) c.if-b-eq92.true (sym c.is_destination_escapable.ensures ∙ c.if-is_destination_escapable.true))
-
-pub shape_of-d-else-is_destination_escapable : goal.shape_of-d-else-is_destination_escapable
-shape_of-d-else-is_destination_escapable c = c.loop-i.invariant.len
-
-pub returns-else-is_destination_escapable : goal.returns-else-is_destination_escapable
-returns-else-is_destination_escapable c =
-    let l = c.loop-i in let pair = ends-bad l.invariant (at-wrong _ _ _ l.d l.i (omega arith) c.if-b-eq92.true (sym c.is_destination_escapable.ensures ∙ c.if-is_destination_escapable.false)) in
-    record {
-      answer = pair.0;
-      bytes = pair.1;
-    }
-
-pub loop-i-preserved-then-is_multispace : goal.loop-i-preserved-then-is_multispace
-loop-i-preserved-then-is_multispace c =
-    let l = c.loop-i in
-    skip l.invariant 1 (omega arith) (at-blank l.d l.i (omega arith) c.if-b-eq92.false (sym c.is_multispace.ensures ∙ c.if-is_multispace.true))
+    let there = c.in_ok-e.ensures.lookup.3 in
+    let taken = sym c.is_destination_escapable.ensures ∙ c.if-not-is_destination_escapable.false in
+    write_two l.invariant _ _ (omega arith) (at-two l.d l.i _ there.0 c.if-b-eq92.true (there.1 0) taken)
 
 pub loop-i-preserved : goal.loop-i-preserved
 loop-i-preserved c =
     let l = c.loop-i in
-    write l.invariant 1 _ (omega arith) (omega arith) (at-unblank l.d l.i (omega arith) c.if-b-eq92.false (sym c.is_multispace.ensures ∙ c.if-is_multispace.false))
-
-pub shape_of-d : goal.shape_of-d
-shape_of-d c = c.loop-i.invariant.len
+    elim c.if-not-is_multispace.branch [
+      | then-not-is_multispace w ↦ rw (w.d-is, w.n-is)
+          (write l.invariant 1 _ (omega arith) (omega arith) (at-unblank l.d l.i (omega arith) c.if-b-eq92.false (sym c.is_multispace.ensures ∙ w.if-not-is_multispace.true)))
+      | else-not-is_multispace w ↦ rw (w.d-is, w.n-is)
+          (skip l.invariant 1 (omega arith) (at-blank l.d l.i (omega arith) c.if-b-eq92.false (sym c.is_multispace.ensures ∙ w.if-not-is_multispace.false)))
+    ]
 
 pub returns : goal.returns
 returns c =

@@ -3,30 +3,35 @@
 -- Assumes nothing.
 use mathlib.Core.Path.{refl, sym, ◌∙◌}
 use native.Mathlib.Omega.{arith}
+use Rattle.std.proofs.Common.{max, rules, tests}
+use Rattle.std.proofs.lemmas.Iterator.{YieldsList-from_slice}
+use Rattle.std.proofs.lemmas.Iterator.Consumers.{fold_from_yields_List}
 use Rattle.rst_bytes.specs.Domain.{any}
 use Rattle.rst_bytes.proofs.DomainLaws.{char-at-within, at-taken, outside-at, outside-nowhere, outside-ascii}
 use Rattle.rst_bytes.proofs.domain.first_outside.Goals as goal
 
-pub returns-then-is_ascii : goal.returns-then-is_ascii
-returns-then-is_ascii c = sym (outside-ascii _ (sym c.is_ascii.ensures ∙ c.if-is_ascii.true))
+pub returns-then-greatest-lt128 : goal.returns-then-greatest-lt128
+returns-then-greatest-lt128 c =
+    let e = fold_from_yields_List _ max 0 c.fold-greatest.result c.fold-greatest.ensures.ran (YieldsList-from_slice c.args.s.now (cc)) (λ top x r q k. search (rules, tests)) in
+    sym (outside-ascii _ (omega (arith, e, c.if-greatest-lt128.true)))
 
 pub loop-i-init : goal.loop-i-init
 loop-i-init c = (omega arith, refl)
 
 pub overflow_add-i : goal.overflow_add-i
-overflow_add-i c = omega (arith, char-at-within c.args.s.now _ _ _ c.loop-i.invariant.0 (sym c.char_at.ensures ∙ c.in-Starts.is))
+overflow_add-i c = omega (arith, char-at-within c.args.s.now _ _ _ c.loop-i.invariant.0 (sym c.char_at.ensures ∙ c.in-Some.is))
 
 pub loop-i-smaller : goal.loop-i-smaller
-loop-i-smaller c = omega (arith, char-at-within c.args.s.now _ _ _ c.loop-i.invariant.0 (sym c.char_at.ensures ∙ c.in-Starts.is))
+loop-i-smaller c = omega (arith, char-at-within c.args.s.now _ _ _ c.loop-i.invariant.0 (sym c.char_at.ensures ∙ c.in-Some.is))
 
 pub loop-i-preserved : goal.loop-i-preserved
 loop-i-preserved c =
     let s = c.args.s.now in
-    let e = sym c.char_at.ensures ∙ c.in-Starts.is in
+    let e = sym c.char_at.ensures ∙ c.in-Some.is in
     ((char-at-within s _ _ _ c.loop-i.invariant.0 e).1, c.loop-i.invariant.1 ∙ at-taken any s _ _ _ e refl)
 
-pub returns-in-Nothing : goal.returns-in-Nothing
-returns-in-Nothing c = sym (outside-at _ _ (omega arith) c.loop-i.invariant.1 (sym c.char_at.ensures ∙ c.in-Nothing.is))
+pub returns-in_default : goal.returns-in_default
+returns-in_default c = sym (outside-at _ _ (omega arith) c.loop-i.invariant.1 (sym c.char_at.ensures ∙ c.in_default.is))
 
 pub returns : goal.returns
 returns c = sym (outside-nowhere c.args.s.now c.loop-i.i (omega arith) c.loop-i.invariant.1)

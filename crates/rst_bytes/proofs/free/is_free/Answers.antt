@@ -1,30 +1,14 @@
--- `free::is_free` meets its contract. The loop's invariant: the answer is what was found before i and that of what is left from i on.
--- One law of `free` at i for each way through the body. The measure is what is left.
+-- `free::is_free` meets its contract: the fold asks each byte.
 -- Assumes nothing.
-use mathlib.Core.Bool.{Bool, ◌&&◌}
-use mathlib.Core.Path.{refl, sym, ap, ◌∙◌}
-use native.Mathlib.Omega.{arith}
-use Rattle.rst_bytes.proofs.TestLaws.{and-missed, and_kept}
-use Rattle.rst_bytes.proofs.FreeLaws.{free-done, free-stop, free-plain}
+use Rattle.std.proofs.Common.{◌∙◌, true, ◌&&◌, not, rules, tests}
+use Rattle.std.proofs.lemmas.Iterator.{YieldsList-from_slice}
+use Rattle.std.proofs.lemmas.Iterator.Consumers.{fold_from_yields_List}
+use Rattle.rst_bytes.specs.Escaped.{is_stop}
+use Rattle.rst_bytes.proofs.FreeLaws.{free-fold}
 use Rattle.rst_bytes.proofs.free.is_free.Goals as goal
-
-pub loop-i-init : goal.loop-i-init
-loop-i-init c = (omega arith, refl)
-
-pub loop-i-preserved-then-is_stop : goal.loop-i-preserved-then-is_stop
-loop-i-preserved-then-is_stop c =
-    let s = c.args in
-    let l = c.loop-i in
-    (omega arith, l.invariant.1 ∙ and-missed l.is _ (free-stop s.p s.q s.s.now l.i (omega arith) (sym c.is_stop.ensures ∙ c.if-is_stop.true)))
-
-pub loop-i-preserved : goal.loop-i-preserved
-loop-i-preserved c =
-    let s = c.args in
-    let l = c.loop-i in
-    (omega arith, l.invariant.1 ∙ ap (λ (x : Bool). l.is && x) (free-plain s.p s.q s.s.now l.i (omega arith) (sym c.is_stop.ensures ∙ c.if-is_stop.false)))
 
 pub returns : goal.returns
 returns c =
     let s = c.args in
-    let l = c.loop-i in
-    sym (l.invariant.1 ∙ and_kept l.is _ (free-done s.p s.q s.s.now l.i (omega arith)))
+    fold_from_yields_List _ (λ is b. is && not (is_stop s.p s.q b)) true _ c.fold.ensures.ran (YieldsList-from_slice s.s.now (cc)) (λ is x r q k. search (rules, tests))
+    ∙ free-fold s.p s.q s.s.now true

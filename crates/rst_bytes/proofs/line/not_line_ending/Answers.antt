@@ -1,47 +1,20 @@
--- `line::not_line_ending` meets its contract. The loop's invariant: i is at most the length, and the answer is that from i on, i
--- bytes being passed; so it is behind the bytes that are neither LF nor CR. One law of `line_from` at i for each way through the
--- body. The measure is what is left.
+-- `line::not_line_ending` meets its contract: bytes that are neither LF nor CR are passed and counted, and what stands behind them tells.
 -- Assumes nothing.
-use mathlib.Core.Path.{sym, ◌∙◌}
-use native.Mathlib.Omega.{arith}
-use Rattle.rst_bytes.proofs.LineLaws.{line-skipped, line-end, line-lf, line-alone, line-crlf, line-cr, line_plain}
+use Rattle.std.proofs.Common.{◌∙◌, sym, ap, rules, tests}
+use Rattle.rst_bytes.proofs.LineLaws.{inner, line_by, line-whole, line-ends, bytes-take_while}
 use Rattle.rst_bytes.proofs.line.not_line_ending.Goals as goal
 
-pub loop-i-init : goal.loop-i-init
-loop-i-init c = (c.free_front-i.ensures.within, line-skipped _ _ c.free_front-i.ensures.within c.free_front-i.ensures.free.0)
+pub returns-then-i-s : goal.returns-then-i-s
+returns-then-i-s c =
+    let n = bytes-take_while _ inner _ c.count-rest.result c.count-rest.ensures.ran (cc) c.take_while.ensures.closure c.take_while.ensures.done (λ x b q k. search (rules, tests)) in
+    sym (line-whole c.args.s.now _ _ c.free_front-front.ensures.within c.free_front-front.ensures.free.0 n c.if-i-s.true)
 
-pub returns-then-b-eq10 : goal.returns-then-b-eq10
-returns-then-b-eq10 c =
-    let s = c.args.s.now in
-    let l = c.loop-i in
-    sym (l.invariant.1 ∙ line-lf s l.i (omega arith) c.if-b-eq10.true)
+pub returns-in-Some : goal.returns-in-Some
+returns-in-Some c =
+    let n = bytes-take_while _ inner _ c.count-rest.result c.count-rest.ensures.ran (cc) c.take_while.ensures.closure c.take_while.ensures.done (λ x b q k. search (rules, tests)) in
+    sym (line-ends c.args.s.now _ _ c.free_front-front.ensures.within c.free_front-front.ensures.free.0 n c.if-i-s.false _ c.line_ending.ensures ∙ ap (line_by _) c.in-Some.is)
 
-pub returns-then-s-j : goal.returns-then-s-j
-returns-then-s-j c =
-    let s = c.args.s.now in
-    let l = c.loop-i in
-    sym (l.invariant.1 ∙ line-alone s l.i c.if-b-eq10.false c.if-b-eq13.true (omega arith) (omega arith))
-
-pub returns-then-c-eq10 : goal.returns-then-c-eq10
-returns-then-c-eq10 c =
-    let s = c.args.s.now in
-    let l = c.loop-i in
-    sym (l.invariant.1 ∙ line-crlf s l.i c.if-b-eq10.false c.if-b-eq13.true (omega arith) c.if-c-eq10.true)
-
-pub returns-then-b-eq13 : goal.returns-then-b-eq13
-returns-then-b-eq13 c =
-    let s = c.args.s.now in
-    let l = c.loop-i in
-    sym (l.invariant.1 ∙ line-cr s l.i c.if-b-eq10.false c.if-b-eq13.true (omega arith) c.if-c-eq10.false)
-
-pub loop-i-preserved : goal.loop-i-preserved
-loop-i-preserved c =
-    let s = c.args.s.now in
-    let l = c.loop-i in
-    (omega arith, l.invariant.1 ∙ line_plain s l.i c.if-b-eq10.false (omega arith) c.if-b-eq13.false)
-
-pub returns : goal.returns
-returns c =
-    let s = c.args.s.now in
-    let l = c.loop-i in
-    sym (l.invariant.1 ∙ line-end s l.i (omega arith))
+pub returns-in-None : goal.returns-in-None
+returns-in-None c =
+    let n = bytes-take_while _ inner _ c.count-rest.result c.count-rest.ensures.ran (cc) c.take_while.ensures.closure c.take_while.ensures.done (λ x b q k. search (rules, tests)) in
+    sym (line-ends c.args.s.now _ _ c.free_front-front.ensures.within c.free_front-front.ensures.free.0 n c.if-i-s.false _ c.line_ending.ensures ∙ ap (line_by _) c.in-None.is)

@@ -1,36 +1,17 @@
--- `tag::tag` meets its contract. A text shorter than t does not begin with it. The loop's invariant: the answer is what was found
--- before i and that for what is left of both from i on. One law of `starts_with` at i for each way through the body. The measure is what
--- is left of the second.
+-- `tag::tag` meets its contract: a text shorter than t does not begin with it, and the fold compares each byte of t with the one of s.
 -- Assumes nothing.
-use mathlib.Core.Bool.{Bool, ◌&&◌}
-use mathlib.Core.Path.{refl, sym, ap, ◌∙◌}
-use native.Mathlib.Omega.{arith}
-use Rattle.rst_bytes.proofs.TestLaws.{and-missed, and_kept}
-use Rattle.rst_bytes.proofs.TagLaws.{starts-shorter, tag-done, tag-other, tag-next}
+use Rattle.std.proofs.Common.{◌∙◌, true, ◌&&◌, nat_eq, length, take, sym, rules, tests}
+use Rattle.std.proofs.lemmas.Iterator.{YieldsList-from_slice, YieldsList-from_zip}
+use Rattle.std.proofs.lemmas.Iterator.Consumers.{fold_from_yields_List}
+use Rattle.rst_bytes.proofs.TagLaws.{starts-fold, starts-shorter}
 use Rattle.rst_bytes.proofs.tag.tag.Goals as goal
 
 pub returns-then-s-t : goal.returns-then-s-t
-returns-then-s-t c =
-    let s = c.args in
-    sym (starts-shorter s.t.now s.s.now c.if-s-t.true)
-
-pub loop-i-init : goal.loop-i-init
-loop-i-init c = (omega arith, omega arith, refl)
-
-pub loop-i-preserved-then-b-c : goal.loop-i-preserved-then-b-c
-loop-i-preserved-then-b-c c =
-    let s = c.args in
-    let l = c.loop-i in
-    (omega arith, omega arith, l.invariant.2 ∙ and-missed l.same _ (tag-other s.s.now s.t.now l.i (omega arith) (omega arith) c.if-b-c.true))
-
-pub loop-i-preserved : goal.loop-i-preserved
-loop-i-preserved c =
-    let s = c.args in
-    let l = c.loop-i in
-    (omega arith, omega arith, l.invariant.2 ∙ ap (λ (x : Bool). l.same && x) (tag-next s.s.now s.t.now l.i (omega arith) (omega arith) c.if-b-c.false))
+returns-then-s-t c = sym (starts-shorter c.args.t.now c.args.s.now c.if-s-t.true)
 
 pub returns : goal.returns
 returns c =
-    let s = c.args in
-    let l = c.loop-i in
-    sym (l.invariant.2 ∙ and_kept l.same _ (tag-done s.s.now s.t.now l.i (omega arith)))
+    let s = c.args.s.now in
+    let t = c.args.t.now in
+    fold_from_yields_List _ (λ same p. same && nat_eq p.0 p.1) true c.fold.result c.fold.ensures.ran (YieldsList-from_zip (YieldsList-from_slice (take (length t) s) (cc)) (YieldsList-from_slice t (cc))) (λ same x r q k. search (rules, tests))
+    ∙ starts-fold t s true c.if-s-t.false
