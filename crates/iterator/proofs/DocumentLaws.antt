@@ -88,15 +88,18 @@ module _ (render : ℕ) (s t w : List ℕ) where
     pub aliases-held : AliasesHeld c.label2label c.label2dest t w
     aliases-held =
         let h = g.held.tables in
-        let f : c.fill ≤ room = omega (arith, filled) in (
-          g.roomy,
-          (h.names-few, (pairs-within-wider _ _ _ f h.destinations-within, pairs-within-wider _ _ _ f h.aliases-within)),
-        )
+        let f : c.fill ≤ room = omega (arith, filled) in
+        record {
+          roomy = g.roomy;
+          few = h.names-few;
+          destinations-within = pairs-within-wider _ _ _ f h.destinations-within;
+          aliases-within = pairs-within-wider _ _ _ f h.aliases-within;
+        }
 
     -- The aliases are resolved: t' are the work numbers then, and so many names have a destination.
     module _ (t' : List ℕ) (names : ℕ) (l : length t' ≡ length t) (a : AliasesResolved names t t') where
       same_rows : link_rows c.links 0 t' ≡ link_rows c.links 0 t
-      same_rows = a.1.1 c.links g.held.tables.links-few
+      same_rows = a.links c.links g.held.tables.links-few
 
       links-within : LinksWithin (length s) room (link_rows c.links 0 t')
       links-within =
@@ -111,7 +114,7 @@ module _ (render : ℕ) (s t w : List ℕ) where
             short = g.short;
             few = g.held.tables.links-few;
             links-within = links-within;
-            names = ((omega (arith, g.roomy.0), g.roomy.1), (a.0, a.1.0));
+            names = record { roomy = (omega (arith, g.roomy.0), g.roomy.1); few = a.few; within = a.within };
           }
 
       -- And the references.
@@ -130,17 +133,17 @@ module _ (render : ℕ) (s t w : List ℕ) where
 
         pub listed : Listed render s t'' w r
         listed =
-            let z : length (records_of (hyperlinks_in r.links s t'' w)) ≡ r.size = records-size 0 _ ∙ sym b.1.0 in
-            let y = size_few r.links 0 s t'' w g.short g.roomy.1 b.1.1 in
+            let z : length (records_of (hyperlinks_in r.links s t'' w)) ≡ r.size = records-size 0 _ ∙ sym b.size in
+            let y = size_few r.links 0 s t'' w g.short g.roomy.1 b.within in
             record {
               short = g.short;
               roomy = (omega (arith, g.roomy.0), g.roomy.1);
-              few = b.0;
+              few = b.few;
               tells = λ o. ap (λ (k : Collected). answered k o) g.tells ∙ ap (λ k. handed k o) (sym links-are);
               in_order = subst⁻¹ (InOrder 0) links-are (collected-in-order render s _ g.tells);
               size = z;
-              size_few = omega (arith, b.0, b.1.0, y);
-              within = b.1.1;
+              size_few = omega (arith, b.few, b.size, y);
+              within = b.within;
             }
 
   -- With output o, which is too short, or not.
@@ -155,7 +158,15 @@ module _ (render : ℕ) (s t w : List ℕ) where
         }
 
     pub writing : r.size ≤ length o → Writing r.links s t w o
-    writing h = (g.short, (g.roomy, (g.few, (g.within, (g.in_order, omega (arith, g.size))))))
+    writing h =
+        record {
+          short = g.short;
+          roomy = g.roomy;
+          few = g.few;
+          within = g.within;
+          order = g.in_order;
+          fits = omega (arith, g.size);
+        }
 
     pub told-written :
         (o' : List ℕ) → r.size ≤ length o

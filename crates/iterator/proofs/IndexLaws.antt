@@ -197,8 +197,8 @@ module _ (t zeros : List ℕ) (n : ℕ) (e : zeros ≡ replicate n 0) (h : lasts
 pub names-kept : (n : ℕ) (t t' w : List ℕ) → NamesHeld n t w → length t' ≡ length t → TablesKept t t' → NamesHeld n t' w
 names-kept n t t' w h l kept =
     let e : pair_rows n destinations_at t' ≡ pair_rows n destinations_at t =
-    pairs-agree n destinations_at t t' (λ k g u. kept k (omega (arith, h.1.0))) in
-    ((omega (arith, h.0.0), h.0.1), (h.1.0, rw e h.1.1))
+    pairs-agree n destinations_at t t' (λ k g u. kept k (omega (arith, h.few))) in
+    record { roomy = (omega (arith, h.roomy.0), h.roomy.1); few = h.few; within = rw e h.within }
 
 -- Of the n names in the rows t₀ the first i are put into the index.
 pub record Indexing (n : ℕ) (t₀ t w : List ℕ) (i : ℕ) : Type 0 where
@@ -213,10 +213,10 @@ pub indexing-start :
     (n k : ℕ) (t zeros w : List ℕ) → NamesHeld n t w → k ≡ 256 → zeros ≡ replicate (length (mid_of lasts_at k t)) 0
     → Indexing n t (put_mid lasts_at k t zeros) w 0
 indexing-start n k t zeros w h g e =
-    let z : zeros ≡ replicate k 0 = e ∙ ap (λ (m : ℕ). replicate m 0) (part_length lasts_at k t (omega (arith, h.0.0))) in
-    let u = emptied t zeros k z (omega (arith, h.0.0)) in
+    let z : zeros ≡ replicate k 0 = e ∙ ap (λ (m : ℕ). replicate m 0) (part_length lasts_at k t (omega (arith, h.roomy.0))) in
+    let u = emptied t zeros k z (omega (arith, h.roomy.0)) in
     record {
-      long = put-length lasts_at k t zeros (omega (arith, h.0.0)) (zeros_long t zeros k z (omega (arith, h.0.0)));
+      long = put-length lasts_at k t zeros (omega (arith, h.roomy.0)) (zeros_long t zeros k z (omega (arith, h.roomy.0)));
       inside = omega arith;
       held = h;
       kept = u.kept;
@@ -225,13 +225,13 @@ indexing-start n k t zeros w h g e =
 
 module _ (n : ℕ) (t₀ t w : List ℕ) (i : ℕ) (v : Indexing n t₀ t w i) where
   same-bucket : (j : ℕ) → j < n → row_bucket t w j ≡ row_bucket t₀ w j
-  same-bucket j h = bucket-agrees t₀ t w j (λ k g l. v.kept k (omega (arith, v.held.1.0)))
+  same-bucket j h = bucket-agrees t₀ t w j (λ k g l. v.kept k (omega (arith, v.held.few)))
 
   -- the next row can be put into the index
   pub can-index : i < n → Indexable i t w
   can-index g =
       let h = names-kept n t₀ t w v.held v.long v.kept in
-      (h.0, (omega (arith, h.1.0), (pairs-within-at room n destinations_at i t g h.1.1).0))
+      record { roomy = h.roomy; few = omega (arith, h.few); within = (pairs-within-at room n destinations_at i t g h.within).0 }
 
   pub indexing-more :
       (t' : List ℕ) → length t' ≡ length t → i < n → t' ≡ with_row i (row_bucket t w i) t → Indexing n t₀ t' w (i + 1)
@@ -239,23 +239,14 @@ module _ (n : ℕ) (t₀ t w : List ℕ) (i : ℕ) (v : Indexing n t₀ t w i) w
       let f = row_bucket t₀ w in
       let b = row_bucket t w i in
       let is : b ≡ f i = same-bucket i g in
-      let few : i < 256 = omega (arith, v.held.1.0) in
-      let long : 4096 ≤ length t = omega (arith, v.held.0.0, v.long) in
+      let few : i < 256 = omega (arith, v.held.few) in
+      let long : 4096 ≤ length t = omega (arith, v.held.roomy.0, v.long) in
       record {
         long = l ∙ v.long;
         inside = omega arith;
         held = v.held;
         kept = λ k u. ap (λ (x : List ℕ). get_or x k 0) e ∙ row_kept f i b t is few long v.rows k u ∙ v.kept k u;
         rows = subst (IndexedBy f (i + 1)) (sym e) (index-more f i b t is few long v.rows (bucket-small _ 0 (omega arith)));
-      }
-
-  pub indexing-done : n ≤ i → record { kept : TablesKept t₀ t; indexed : Indexed n t w }
-  indexing-done g =
-      let e : i ≡ n = omega (arith, v.inside) in
-      let x : IndexedBy (row_bucket t₀ w) n t = rw e at v.rows in
-      record {
-        kept = v.kept;
-        indexed = index_agrees (row_bucket t₀ w) (row_bucket t w) n t t same-bucket (λ k l. refl) x;
       }
 
 -- Looking up through the index

@@ -42,11 +42,11 @@ module _ (t w : List ℕ) (i j : ℕ) (r : PairRow) (e : r ≡ pair_at t (destin
   -- n rows are held
   module _ (n : ℕ) (held : NamesHeld n t w) (inside : i ≤ n) where
     row_within : PairWithin room r
-    row_within = subst⁻¹ (PairWithin room) e (pairs-within-at room n destinations_at j t (omega arith) held.1.1)
+    row_within = subst⁻¹ (PairWithin room) e (pairs-within-at room n destinations_at j t (omega arith) held.within)
 
     -- the name of the row stands in the work bytes
     pub row-inside : r.name.start + r.name.len ≤ length w
-    row-inside = omega (arith, row_within.0.0, held.0.1)
+    row-inside = omega (arith, row_within.0.0, held.roomy.1)
 
     -- it is the name that is looked up, and no row behind it has that
     pub row-found :

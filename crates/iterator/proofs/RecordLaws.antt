@@ -73,7 +73,7 @@ module _ (s w : List ℕ) (x : LinkRow) (h : Writable s w x) where
   goal-length = part_length x.goal.start x.goal.len w (omega arith)
 
   pub text-le : length (text_of s w x) ≤ 16384
-  text-le = go x.kind h.1.1.1.0
+  text-le = go x.kind h.within.1.0
     where
       at-most : (d : List ℕ) → x.text.start + x.text.len ≤ length d → x.text.len ≤ 16384 → length (part x.text d) ≤ 16384
       at-most d f g = omega (arith, part_length x.text.start x.text.len d f)
@@ -102,7 +102,7 @@ unfolding link_rows size_of LinksWithin
 size_few zero a s t w short roomy h = omega arith
 size_few (suc n) a s t w short roomy h =
     let x = link_at t a in
-    let p : Writable s w x = (short, (roomy, h.0)) in
+    let p : Writable s w x = record { short = short; roomy = roomy; within = h.0 } in
     omega (arith, text-le s w x p, goal-length s w x p, h.0.1.1.1, size_few n (a + 7) s t w short roomy h.1)
 
 -- One more string is written behind those that are written: p are the first n bytes of the output, and the others are as they were.
@@ -208,14 +208,19 @@ module _ (n : ℕ) (s t w o₀ o : List ℕ) (i end at : ℕ) (v : Emitted n s t
     -- so that it can be written
     pub can-emit :
         length s ≤ 16384 → room ≤ length w
-        → Writable s w x
-        × ((end ≤ x.place) × (length (record_of end (hyperlink_of s w x)) ≤ length (mid_of at (length o - at) o)))
+        → record {
+          writable : Writable s w x;
+          order : end ≤ x.place;
+          room : length (record_of end (hyperlink_of s w x)) ≤ length (mid_of at (length o - at) o);
+        }
     can-emit short roomy =
         let g : at ≤ length o = omega (arith, emit-length, v.fits, v.inside) in
-        let l : length (mid_of at (length o - at) o) ≡ length o - at = part_length at (length o - at) o (omega arith) in (
-          (short, (roomy, emit-within.0)),
-          (emit-order.0, omega (arith, room-left, v.fits, emit-length)),
-        )
+        let l : length (mid_of at (length o - at) o) ≡ length o - at = part_length at (length o - at) o (omega arith) in
+        record {
+          writable = record { short = short; roomy = roomy; within = emit-within.0 };
+          order = emit-order.0;
+          room = omega (arith, room-left, v.fits, emit-length);
+        }
 
     -- it is written
     pub emit-turn :

@@ -130,8 +130,16 @@ module _ (n i destinations : ℕ) (s t w : List ℕ) (r : Resolved) (v : Resolvi
     row_within = rows-within.0
 
     -- its goal can be looked up
-    pub can-look : InIndex destinations t w × SpanWithin room x.goal
-    can-look = (((v.roomy, (v.destinations-few, v.destinations-within)), v.indexed), row_within.1.1)
+    pub can-look : record { index : InIndex destinations t w; within : SpanWithin room x.goal }
+    can-look =
+        record {
+          index =
+              record {
+                held = record { roomy = v.roomy; few = v.destinations-few; within = v.destinations-within };
+                indexed = v.indexed;
+              };
+          within = row_within.1.1;
+        }
 
     items : items_of (n - i) (7 * i) s t w ≡ item_of s w x ∷ items_of (n - (i + 1)) (7 * (i + 1)) s t w
     items = ap (map (item_of s w)) (links-next n i t x ex more)
@@ -208,7 +216,12 @@ module _ (n i destinations : ℕ) (s t w : List ℕ) (r : Resolved) (v : Resolvi
     -- It is kept, and goes to a goal.
     pub can-keep : (goal : Span) → SpanWithin room goal → Keeping (record x { goal = goal }) r s t w
     can-keep goal h =
-        (v.roomy, ((v.short, (v.roomy.1, (row_within.0, (row_within.1.0, h)))), (omega (arith, v.before, v.few), size_small)))
+        record {
+          roomy = v.roomy;
+          writable = record { short = v.short; roomy = v.roomy.1; within = (row_within.0, (row_within.1.0, h)) };
+          few = omega (arith, v.before, v.few);
+          size = size_small;
+        }
 
 -- All links are resolved, one after the other: what they are of the rows t₀ that are lent.
 pub record References (n destinations : ℕ) (s t₀ t w : List ℕ) (i : ℕ) (r : Resolved) : Type 0 where
@@ -235,7 +248,7 @@ module _ (n destinations : ℕ) (s t₀ t w : List ℕ) (i : ℕ) (r : Resolved)
       → References n destinations s t₀ t' w (i + 1) k
   references-more goal h e k t' ek et =
       let y : LinkRow = record x { goal = goal } in
-      let within : LinkWithin (length s) room y = (can-keep n i destinations s t w r v.held x ex more goal h).1.0.1.1 in
+      let within : LinkWithin (length s) room y = (can-keep n i destinations s t w r v.held x ex more goal h).writable.within in
       let z = ap (resolve_references (pairs_of destinations destinations_at t w)) (items n i destinations s t w r v.held x ex more)
       ∙ next-found _ s w x _ goal e in
       rw (ek, et) (record {
@@ -254,23 +267,23 @@ references-start n destinations s t t' w h l kept x r z =
     let e : n - 0 ≡ n = omega arith in
     let links : link_rows n 0 t' ≡ link_rows n 0 t = links-agree n 0 t t' (λ k g u. kept k (omega (arith, h.few))) in
     let rows : pair_rows destinations destinations_at t' ≡ pair_rows destinations destinations_at t =
-    pairs-agree destinations destinations_at t t' (λ k g u. kept k (omega (arith, h.names.1.0))) in
+    pairs-agree destinations destinations_at t t' (λ k g u. kept k (omega (arith, h.names.few))) in
     let names = names-kept destinations t t' w h.names l kept in
     let none_yet : r ≡ record { links = 0; size = 0 } = λ j. record { links = z.0 j; size = z.1 j } in
     rw none_yet (record {
       long = l;
       held =
           record {
-            roomy = names.0;
+            roomy = names.roomy;
             short = h.short;
             before = omega arith;
             inside = omega arith;
             few = h.few;
-            destinations-few = h.names.1.0;
+            destinations-few = h.names.few;
             size = refl;
             resolved-within = tt;
             ahead_within = rw (e, links) h.links-within;
-            destinations-within = names.1.1;
+            destinations-within = names.within;
             indexed = x;
           };
       links =
@@ -290,5 +303,10 @@ references-done n destinations s t₀ t w i r v h =
     let z : resolve_references (pairs_of destinations destinations_at t w) (items_of (n - i) (7 * i) s t w) ≡ [] = ap (λ (k : ℕ). resolve_references (pairs_of destinations destinations_at t w) (items_of k (7 * i) s t w)) e in
     record {
       links = sym (append-nil (hyperlinks_in r.links s t w)) ∙ ap (λ (l : List Hyperlink). hyperlinks_in r.links s t w ++ l) (sym z) ∙ v.links;
-      held = (omega (arith, v.held.before, v.held.inside, v.held.few), (v.held.size, v.held.resolved-within));
+      held =
+          record {
+            few = omega (arith, v.held.before, v.held.inside, v.held.few);
+            size = v.held.size;
+            within = v.held.resolved-within;
+          };
     }

@@ -92,29 +92,33 @@ rows-cons t v h =
 -- An alias that is tried: its row is x
 module _ (t w : List ℕ) (v : Walk) (p : Tryable t w v) (x : PairRow) (e : x ≡ pair_at t (aliases_at + 4 * v.next)) where
   rows_next : ahead_rows t v ≡ x ∷ behind_rows t v
-  rows_next = rows-cons t v p.1.0 ∙ ap (λ (y : PairRow). y ∷ behind_rows t v) (sym e)
+  rows_next = rows-cons t v p.more ∙ ap (λ (y : PairRow). y ∷ behind_rows t v) (sym e)
 
   within-next : PairWithin room x × PairsWithin room (behind_rows t v)
   unfolding PairsWithin
-  within-next = subst (PairsWithin room) rows_next p.0.ahead_within
+  within-next = subst (PairsWithin room) rows_next p.walking.ahead_within
 
   without-next :
       (lookup (part x.to w) (pairs_of v.known destinations_at t w) ≡ none)
       × Without (pairs_of v.known destinations_at t w) (map (pair_of w) (behind_rows t v))
   unfolding Without
   without-next =
-      subst (λ (rows : List PairRow). Without (pairs_of v.known destinations_at t w) (map (pair_of w) rows)) rows_next p.0.ahead-without
+      subst (λ (rows : List PairRow). Without (pairs_of v.known destinations_at t w) (map (pair_of w) rows)) rows_next p.walking.ahead-without
 
   pub tried-small : PairSmall x
   tried-small = pair_small room x within-next.0 (omega arith)
 
   -- its target, which is looked up
   pub tried-inside : x.to.start + x.to.len ≤ length w
-  tried-inside = omega (arith, within-next.0.1.0, p.0.roomy.1)
+  tried-inside = omega (arith, within-next.0.1.0, p.walking.roomy.1)
 
   pub tried-lookable : (name : List ℕ) → name ≡ part x.to w → Lookable name v.known v.destinations t w
   tried-lookable name f =
-      ((p.0.roomy, (omega arith, p.0.destinations-within)), (p.0.known-few, ap (λ (n : List ℕ). lookup n (pairs_of v.known destinations_at t w)) f ∙ without-next.0))
+      record {
+        held = record { roomy = p.walking.roomy; few = omega arith; within = p.walking.destinations-within };
+        before = p.walking.known-few;
+        others = ap (λ (n : List ℕ). lookup n (pairs_of v.known destinations_at t w)) f ∙ without-next.0;
+      }
 
   queue-next : queue_of t w v ≡ pair_of w x ∷ rest_of t w v
   queue-next = ap (λ (rows : List PairRow). map (pair_of w) rows ++ pairs_of v.passed aliases_at t w) rows_next
@@ -123,12 +127,12 @@ module _ (t w : List ℕ) (v : Walk) (p : Tryable t w v) (x : PairRow) (e : x �
   walk-next = ap (λ (q : List Pair). goes_on v.misses q (stored_in t w v)) queue-next
 
   misses-fewer : v.misses < length (pair_of w x ∷ rest_of t w v)
-  misses-fewer = subst (λ n. v.misses < n) (sym (length-queue t w v) ∙ ap length queue-next) p.1.1
+  misses-fewer = subst (λ n. v.misses < n) (sym (length-queue t w v) ∙ ap length queue-next) p.unmissed
 
   -- a row y that is put at place m, before those behind the next
   module _ (m : ℕ) (y : PairRow) where
     put-roomy : Roomy (put_pair t m y) w
-    put-roomy = (omega (arith, length-put-pair t m y, p.0.roomy.0), p.0.roomy.1)
+    put-roomy = (omega (arith, length-put-pair t m y, p.walking.roomy.0), p.walking.roomy.1)
 
     put-behind : m ≤ aliases_at + 4 * v.next → behind_rows (put_pair t m y) v ≡ behind_rows t v
     put-behind h = pairs-pair-before (v.end - (v.next + 1)) (aliases_at + 4 * (v.next + 1)) m t y (omega arith)
@@ -172,8 +176,8 @@ module _ (t w : List ℕ) (v : Walk) (p : Tryable t w v) (x : PairRow) (e : x �
       → Without (pairs_of v.fresh destinations_at t w) (map (pair_of w) (pair_rows v.passed aliases_at t ++ x ∷ []))
   passed-more g =
       subst⁻¹ (Without (pairs_of v.fresh destinations_at t w)) (map_snoc (pair_of w) (pair_rows v.passed aliases_at t) x)
-      (without-snoc (pairs_of v.fresh destinations_at t w) (pairs_of v.passed aliases_at t w) (pair_of w x) p.0.passed-without
-      (none-fewer t w (part x.to w) v.fresh (v.destinations - v.fresh) v.destinations (omega (arith, p.0.fresh-few)) g))
+      (without-snoc (pairs_of v.fresh destinations_at t w) (pairs_of v.passed aliases_at t w) (pair_of w x) p.walking.passed-without
+      (none-fewer t w (part x.to w) v.fresh (v.destinations - v.fresh) v.destinations (omega (arith, p.walking.fresh-few)) g))
 
   passed-walking :
       lookup (part x.to w) (stored_in t w v) ≡ none → Walking (put_pair t (aliases_at + 4 * v.passed) x) w (passed_one v)
@@ -183,17 +187,17 @@ module _ (t w : List ℕ) (v : Walk) (p : Tryable t w v) (x : PairRow) (e : x �
         passed-before = omega arith;
         next-before = omega arith;
         few = omega arith;
-        end-few = p.0.end-few;
+        end-few = p.walking.end-few;
         misses-few = omega arith;
-        destinations-within = subst⁻¹ (PairsWithin room) passed-all p.0.destinations-within;
+        destinations-within = subst⁻¹ (PairsWithin room) passed-all p.walking.destinations-within;
         ahead_within = subst⁻¹ (PairsWithin room) passed-behind within-next.1;
         passed-within =
             subst⁻¹ (PairsWithin room) passed-rows
-            (pairs-within-snoc room (pair_rows v.passed aliases_at t) x p.0.passed-within within-next.0);
-        known-few = p.0.known-few;
-        fresh-few = p.0.fresh-few;
-        ahead-without = without-rows w _ _ _ _ (passed-destinations v.known p.0.known-few) passed-behind without-next.1;
-        passed-without = without-rows w _ _ _ _ (passed-destinations v.fresh p.0.fresh-few) passed-rows (passed-more g);
+            (pairs-within-snoc room (pair_rows v.passed aliases_at t) x p.walking.passed-within within-next.0);
+        known-few = p.walking.known-few;
+        fresh-few = p.walking.fresh-few;
+        ahead-without = without-rows w _ _ _ _ (passed-destinations v.known p.walking.known-few) passed-behind without-next.1;
+        passed-without = without-rows w _ _ _ _ (passed-destinations v.fresh p.walking.fresh-few) passed-rows (passed-more g);
       }
 
   pub passed :
@@ -233,18 +237,18 @@ module _ (t w : List ℕ) (v : Walk) (p : Tryable t w v) (x : PairRow) (e : x �
           passed-before = omega arith;
           next-before = omega arith;
           few = omega arith;
-          end-few = p.0.end-few;
+          end-few = p.walking.end-few;
           misses-few = omega arith;
           destinations-within =
               subst⁻¹ (PairsWithin room) stored-rows
-              (pairs-within-snoc room (pair_rows v.destinations destinations_at t) y p.0.destinations-within b);
+              (pairs-within-snoc room (pair_rows v.destinations destinations_at t) y p.walking.destinations-within b);
           ahead_within = subst⁻¹ (PairsWithin room) stored-behind within-next.1;
-          passed-within = subst⁻¹ (PairsWithin room) stored-passed p.0.passed-within;
+          passed-within = subst⁻¹ (PairsWithin room) stored-passed p.walking.passed-within;
           known-few = omega arith;
           fresh-few = omega arith;
-          ahead-without = without-rows w _ _ _ _ (stored-destinations v.known p.0.known-few) stored-behind without-next.1;
+          ahead-without = without-rows w _ _ _ _ (stored-destinations v.known p.walking.known-few) stored-behind without-next.1;
           passed-without =
-              without-rows w _ _ _ _ (stored-destinations v.fresh p.0.fresh-few) stored-passed p.0.passed-without;
+              without-rows w _ _ _ _ (stored-destinations v.fresh p.walking.fresh-few) stored-passed p.walking.passed-without;
         }
 
   -- the row that is stored

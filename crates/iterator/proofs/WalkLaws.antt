@@ -39,8 +39,8 @@ module _ (t w : List ℕ) (v : Walk) (ok : Walking t w v) (k : v.misses < left_o
   wrapped-end e =
       let f : v.passed - 0 ≡ v.passed = omega arith in
       record {
-        tryable = (
-          record {
+        tryable = record {
+          walking = record {
             roomy = ok.roomy;
             passed-before = omega arith;
             next-before = omega arith;
@@ -54,14 +54,15 @@ module _ (t w : List ℕ) (v : Walk) (ok : Walking t w v) (k : v.misses < left_o
             fresh-few = omega arith;
             ahead-without = rw f ok.passed-without;
             passed-without = tt;
-          },
-          (omega arith, omega arith),
-        );
+          };
+          more = omega arith;
+          unmissed = omega arith;
+        };
         walk = ap (λ (q : List Pair). goes_on v.misses q (pairs_of v.destinations destinations_at t w)) (queue-wrap e);
       }
 
   wrapped-on : (v.next ≡ v.end → ⊥) → Wrapped t w v v
-  wrapped-on e = record { tryable = (ok, (omega arith, k)); walk = refl }
+  wrapped-on e = record { tryable = record { walking = ok; more = omega arith; unmissed = k }; walk = refl }
 
   wrapped-by : (u : Walk) → u ≡ wrap v → Wrapped t w v u
   wrapped-by u e =
@@ -108,14 +109,14 @@ module _ (aliases destinations : ℕ) (t w : List ℕ) where
       record {
         walking =
             record {
-              roomy = h.0;
+              roomy = h.roomy;
               passed-before = omega arith;
               next-before = omega arith;
               few = omega arith;
               end-few = omega arith;
               misses-few = omega arith;
-              destinations-within = h.1.1.0;
-              ahead_within = rw f h.1.1.1;
+              destinations-within = h.destinations-within;
+              ahead_within = rw f h.aliases-within;
               passed-within = tt;
               known-few = omega arith;
               fresh-few = omega arith;
@@ -156,5 +157,5 @@ module _ (aliases destinations : ℕ) (t w : List ℕ) where
         let stop = goes-stop (pairs_of v.destinations destinations_at t' w) v.misses (queue_of t' w v) (omega (arith, length-queue t' w v)) in
         record {
           resolved = sym stop ∙ ok.walk;
-          held = (omega (arith, ok.walking.few), (ok.walking.destinations-within, ok.links));
+          held = record { few = omega (arith, ok.walking.few); within = ok.walking.destinations-within; links = ok.links };
         }

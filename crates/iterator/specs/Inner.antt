@@ -271,20 +271,21 @@ found_of None w = none
 
 -- the names with a destination, n of them, stand in the areas
 abbrev pub NamesHeld : ℕ → List ℕ → List ℕ → Type 0
-NamesHeld n t w = Roomy t w × ((n ≤ 256) × PairsWithin room (pair_rows n destinations_at t))
+NamesHeld n t w = record { roomy : Roomy t w; few : n ≤ 256; within : PairsWithin room (pair_rows n destinations_at t) }
 
 -- and a name can be looked up there; the first m of them are others
 abbrev pub Lookable : List ℕ → ℕ → ℕ → List ℕ → List ℕ → Type 0
 Lookable name m n t w =
-    NamesHeld n t w × ((m ≤ n) × (lookup name (pairs_of m destinations_at t w) ≡ none))
+    record { held : NamesHeld n t w; before : m ≤ n; others : lookup name (pairs_of m destinations_at t w) ≡ none }
 
 -- row i can be put into the index
 abbrev pub Indexable : ℕ → List ℕ → List ℕ → Type 0
-Indexable i t w = Roomy t w × ((i < 256) × SpanWithin room (pair_at t (destinations_at + 4 * i)).name)
+Indexable i t w =
+    record { roomy : Roomy t w; few : i < 256; within : SpanWithin room (pair_at t (destinations_at + 4 * i)).name }
 
 -- the n names are in the index
 abbrev pub InIndex : ℕ → List ℕ → List ℕ → Type 0
-InIndex n t w = NamesHeld n t w × Indexed n t w
+InIndex n t w = record { held : NamesHeld n t w; indexed : Indexed n t w }
 
 -- The walk through the aliases
 
@@ -339,7 +340,7 @@ pub record Walking (t w : List ℕ) (v : Walk) : Type 0 where
 
 -- an alias is next, and not all that are left were missed
 abbrev pub Tryable : List ℕ → List ℕ → Walk → Type 0
-Tryable t w v = Walking t w v × ((v.next < v.end) × (v.misses < left_of v))
+Tryable t w v = record { walking : Walking t w v; more : v.next < v.end; unmissed : v.misses < left_of v }
 
 -- how much of the walk is left at the most
 abbrev pub steps_left : Walk → ℕ
@@ -351,18 +352,22 @@ LinksKept t t' = (n : ℕ) → n ≤ 256 → link_rows n 0 t' ≡ link_rows n 0 
 
 abbrev pub AliasesHeld : ℕ → ℕ → List ℕ → List ℕ → Type 0
 AliasesHeld aliases destinations t w =
-    Roomy t w
-    × ((destinations + aliases ≤ 256)
-    × (PairsWithin room (pair_rows destinations destinations_at t) × PairsWithin room (pair_rows aliases aliases_at t)))
+    record {
+      roomy : Roomy t w;
+      few : destinations + aliases ≤ 256;
+      destinations-within : PairsWithin room (pair_rows destinations destinations_at t);
+      aliases-within : PairsWithin room (pair_rows aliases aliases_at t);
+    }
 
 abbrev pub AliasesResolved : ℕ → List ℕ → List ℕ → Type 0
-AliasesResolved r t t' = (r ≤ 256) × (PairsWithin room (pair_rows r destinations_at t') × LinksKept t t')
+AliasesResolved r t t' =
+    record { few : r ≤ 256; within : PairsWithin room (pair_rows r destinations_at t'); links : LinksKept t t' }
 
 -- The links as they are written
 
 -- a row whose goal is a destination can be written: its strings stand in the document and in the work bytes
 abbrev pub Writable : List ℕ → List ℕ → LinkRow → Type 0
-Writable s w x = (length s ≤ 16384) × ((room ≤ length w) × LinkWithin (length s) room x)
+Writable s w x = record { short : length s ≤ 16384; roomy : room ≤ length w; within : LinkWithin (length s) room x }
 
 -- how many bytes the records of links take
 unfoldable pub size_of : List Hyperlink → ℕ
@@ -376,7 +381,8 @@ InOrder n (x ∷ rest) = (n ≤ x.place) × InOrder (x.place + x.consumed) rest
 
 -- a link can be put behind those that are resolved
 abbrev pub Keeping : LinkRow → Resolved → List ℕ → List ℕ → List ℕ → Type 0
-Keeping x r s t w = Roomy t w × (Writable s w x × ((r.links < 256) × (r.size ≤ 32776 * r.links)))
+Keeping x r s t w =
+    record { roomy : Roomy t w; writable : Writable s w x; few : r.links < 256; size : r.size ≤ 32776 * r.links }
 
 abbrev pub kept : LinkRow → Resolved → List ℕ → List ℕ → Resolved
 kept x r s w =
@@ -400,17 +406,23 @@ pub record ReferencesHeld (n destinations : ℕ) (s t w : List ℕ) : Type 0 whe
 
 abbrev pub ReferencesResolved : List ℕ → List ℕ → List ℕ → Resolved → Type 0
 ReferencesResolved s t w r =
-    (r.links ≤ 256)
-    × ((r.size ≡ size_of (hyperlinks_in r.links s t w)) × LinksWithin (length s) room (link_rows r.links 0 t))
+    record {
+      few : r.links ≤ 256;
+      size : r.size ≡ size_of (hyperlinks_in r.links s t w);
+      within : LinksWithin (length s) room (link_rows r.links 0 t);
+    }
 
 -- the records of n links can be written to output o
 abbrev pub Writing : ℕ → List ℕ → List ℕ → List ℕ → List ℕ → Type 0
 Writing n s t w o =
-    (length s ≤ 16384)
-    × (Roomy t w
-    × ((n ≤ 256)
-    × (LinksWithin (length s) room (link_rows n 0 t)
-    × (InOrder 0 (hyperlinks_in n s t w) × (length (records_of (hyperlinks_in n s t w)) ≤ length o)))))
+    record {
+      short : length s ≤ 16384;
+      roomy : Roomy t w;
+      few : n ≤ 256;
+      within : LinksWithin (length s) room (link_rows n 0 t);
+      order : InOrder 0 (hyperlinks_in n s t w);
+      fits : length (records_of (hyperlinks_in n s t w)) ≤ length o;
+    }
 
 -- fields of 15 bits
 abbrev pub Fields : ℕ → ℕ → ℕ → ℕ → Type 0

@@ -20,7 +20,8 @@ fn digit(n: u32) -> u8
 // `_` and a number, written to the front of the bytes; how many they are.
 // No `write!`: its contract does not say which bytes it writes.
 pub fn write_numbered(number: u32, bytes: &mut [u8]) -> usize
-    requires { (number < 1000) × (4 ≤ length bytes.old) }
+    requires few { number < 1000 }
+    requires room { 4 ≤ length bytes.old }
     ensures written { bytes.new ≡ numbered number ++ drop (length (numbered number)) bytes.old }
     ensures size { result ≡ length (numbered number) }
 {

@@ -38,7 +38,8 @@ pub fn record_len(x: LinkRow, document: &[u8], bytes: &[u8]) -> usize
 
 // The four fields, written to the front of the output.
 fn write_head(skipped: usize, consumed: usize, text: usize, dest: usize, output: &mut [u8])
-    requires { Fields skipped consumed text dest × (8 ≤ length output.old) }
+    requires fields { Fields skipped consumed text dest }
+    requires room { 8 ≤ length output.old }
     ensures { output.new ≡ bytes8 (word_of skipped consumed text dest) ++ drop 8 output.old }
 {
     let word = (skipped as u64) << 49
@@ -50,7 +51,9 @@ fn write_head(skipped: usize, consumed: usize, text: usize, dest: usize, output:
 
 // A link's record, written to the front of the output; how many bytes it is. The consumed part of the link before ended at `end`.
 fn write_record(x: LinkRow, end: usize, document: &[u8], bytes: &[u8], output: &mut [u8]) -> usize
-    requires { Writable document.now bytes.now x × ((end ≤ x.place) × (length (record_of end (hyperlink_of document.now bytes.now x)) ≤ length output.old)) }
+    requires writable { Writable document.now bytes.now x }
+    requires order { end ≤ x.place }
+    requires room { length (record_of end (hyperlink_of document.now bytes.now x)) ≤ length output.old }
     ensures written { output.new ≡ record_of end (hyperlink_of document.now bytes.now x) ++ drop result output.old }
     ensures size { result ≡ length (record_of end (hyperlink_of document.now bytes.now x)) }
 {

@@ -58,6 +58,8 @@ fn destination_by_index(name: &[u8], n: usize, numbers: &[u32], bytes: &[u8]) ->
     ensures within { IfSome result (SpanWithin room) }
 {
     let mut next = (numbers[LASTS + bucket(name)] as usize).checked_sub(1);
+    // No `for`: each row tells the one before it in its bucket.
+    // No `for`: each row names the one before it in its bucket.
     while let Some(i) = next {
         let row = pair_at(numbers, DESTINATIONS + 4 * i);
         if same_name(row.name.of(bytes), name) {
@@ -163,6 +165,8 @@ pub fn resolve_label2label_references(
         known: 0,
         fresh: destinations,
     };
+    // No `for`: a hit changes how many tries are left.
+    // No `for`: it goes round until as many aliases were missed in a row as are left.
     while v.misses < v.passed + (v.end - v.next) {
         v = v.wrapped().try_alias(numbers, bytes);
     }
@@ -193,7 +197,8 @@ impl Resolved {
 
 // The destination of a link: its goal, or, of a reference, what its label has.
 fn goal_of(x: LinkRow, destinations: usize, numbers: &[u32], bytes: &[u8]) -> Option<Span>
-    requires { InIndex destinations numbers.now bytes.now × SpanWithin room x.goal }
+    requires index { InIndex destinations numbers.now bytes.now }
+    requires within { SpanWithin room x.goal }
     ensures found { found_of result bytes.now ≡ goal_of (pairs_of destinations destinations_at numbers.now bytes.now) bytes.now x }
     ensures within { IfSome result (SpanWithin room) }
 {

@@ -67,7 +67,8 @@ fn span_at(numbers: &[u32], n: usize) -> Span
 
 // Two numbers put at a place.
 fn put_span(numbers: &mut [u32], n: usize, x: Span)
-    requires { (n + 2 ≤ length numbers.old) × SpanSmall x }
+    requires room { n + 2 ≤ length numbers.old }
+    requires small { SpanSmall x }
     ensures { numbers.new ≡ put_span numbers.old n x }
 {
     numbers[n] = x.start as u32;
@@ -87,7 +88,8 @@ pub fn pair_at(numbers: &[u32], n: usize) -> PairRow
 
 // Four numbers put at a place.
 pub fn put_pair(numbers: &mut [u32], n: usize, x: PairRow)
-    requires { (n + 4 ≤ length numbers.old) × PairSmall x }
+    requires room { n + 4 ≤ length numbers.old }
+    requires small { PairSmall x }
     ensures { numbers.new ≡ put_pair numbers.old n x }
 {
     put_span(numbers, n, x.name);
@@ -110,7 +112,8 @@ pub fn link_at(numbers: &[u32], n: usize) -> LinkRow
 
 // Seven numbers put at a place.
 pub fn put_link(numbers: &mut [u32], n: usize, x: LinkRow)
-    requires { (n + 7 ≤ length numbers.old) × LinkSmall x }
+    requires room { n + 7 ≤ length numbers.old }
+    requires small { LinkSmall x }
     ensures { numbers.new ≡ put_link numbers.old n x }
 {
     numbers[n] = x.place as u32;

@@ -53,9 +53,9 @@ NoBlock s = tried rst.blocks s ≡ nothing
 abbrev pub Blockless : ℕ → ℕ → List ℕ → Type 0
 Blockless m n s = Each (Any NoBlock) m n s
 
--- where 1 is marked no block begins: the marks are those of a text in which s stands at place m
-abbrev pub Barred : ℕ → List ℕ → List ℕ → Type 0
-Barred m marks s = (k : ℕ) → get_or marks (m + k) 0 ≡ 1 → NoBlock (drop k s)
+-- where 1 is marked no block begins
+abbrev pub Barred : List ℕ → List ℕ → Type 0
+Barred marks s = (k : ℕ) → get_or marks k 0 ≡ 1 → NoBlock (drop k s)
 
 -- the first unescaped backtick or < is <
 abbrev pub Opened : List ℕ → Type 0
@@ -64,7 +64,7 @@ Opened s = (n : ℕ) × (taking 0x60 0x3C false 0 s ≡ Some n) × (n < length s
 -- what is known from place m on is true, with these marks of the text
 abbrev pub Holds : ℕ → Known → List ℕ → List ℕ → Type 0
 Holds m known marks s =
-    Shut m known.shut s × Barren m known.barren s × Blockless m known.blocks s × Barred 0 marks s
+    Shut m known.shut s × Barren m known.barren s × Blockless m known.blocks s × Barred marks s
 
 -- what is known of every text
 abbrev pub nothing_known : Known
@@ -108,11 +108,6 @@ abbrev pub HoldsBehind : List ℕ → Known → List ℕ → Option Link → Typ
 HoldsBehind s known marks (Some x) = Holds (link_end x) known marks s
 HoldsBehind s known marks None = Unit {0}
 
--- the same, and where none was found nothing was learnt
-abbrev pub Learns : List ℕ → List ℕ → Known → Known → Option Link → Type 0
-Learns s marks old new (Some x) = Holds (link_end x) new marks s
-Learns s marks old new None = new ≡ old
-
 -- what is known is true of the text behind a link, with the marks from there on
 abbrev pub TrueBehind : List ℕ → List ℕ → Known → Result Link ParseError → Type 0
 TrueBehind s marks known (Ok x) = Holds 0 known (drop (link_end x) marks) (drop (link_end x) s)
@@ -134,11 +129,6 @@ step_of step scratch = going_on step scratch passes
 abbrev pub StepEnds : {C : Type 0} → ControlFlow (Option Link) C → Type 0
 StepEnds (Break x) = FoundEnds x
 StepEnds (Continue c) = Unit {0}
-
--- what is known is true from behind the link on, or from the place where it goes on
-abbrev pub StepHolds : {C : Type 0} → List ℕ → List ℕ → Known → (C → ℕ) → ControlFlow (Option Link) C → Type 0
-StepHolds s marks known place (Break x) = HoldsBehind s known marks x
-StepHolds s marks known place (Continue c) = Holds (place c) known marks s
 
 -- from place i on and before place j of s no byte passes the test
 abbrev pub Without : (ℕ → Bool) → ℕ → ℕ → List ℕ → Type 0

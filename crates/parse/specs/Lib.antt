@@ -6,10 +6,10 @@
 -- Link says what an answer means with the scratch as the scanner left it, that a scratch as long as the text is enough and is asked
 -- for, and that the strings end within as many bytes of it as are consumed (Ends, part of the contract). Forms lists the parsers that
 -- are tried, and where. Single gives 01's number and values for each case of the single-link answer (outcome_of); its strings stand at
--- the front of the buffers (Fronts, part of the contract). Links says what all links of a text are, one after the other. Inner is what
--- the contracts of private functions speak of, and what is known of backticks and blocks: `next_link` is handed such knowledge and the
--- marks that go with it, asks that it is true (Holds), and hands back what is true behind the link with the marks from there on
--- (NextHolds). Cases gathers worked cases, which proofs/CasesHold.antt computes.
+-- the front of the buffers (Fronts, part of the contract). Links says what all links of a text are, one after the other. Inner and Place are
+-- what the contracts of private functions speak of, and Inner also what is known of backticks and blocks: `next_link` is handed such
+-- knowledge and the marks that go with it, asks that it is true (Holds), and hands back what is true behind the link with the marks from
+-- there on (NextHolds). Cases gathers worked cases, which proofs/CasesHold.antt computes.
 --
 -- Laws, proved in the file of proofs/ that is named, for the layers above; Laws defines what they speak of. Those marked * hold for any
 -- forms that consume at least one byte and no more than there are (`Forms.Consuming`), and reStructuredText's do (ScanLaws
@@ -26,8 +26,7 @@
 --   calm               CalmLaws calm-skips: the rounds from a place on are those from a later one on, where no _ and no backtick stands
 --                      between and (f) ends there, before LF or the end; gap-skips: or before a blank, where no line starts
 --   handing on         OnwardLaws found-holds, behind-holds: what is known where a link is found is true of the text behind it, which
---                      the next scan reads, with the marks from there on, and so is what is told of blocks there; holds-nothing: nothing
---                      known is true of every text
+--                      the next scan reads, with the marks from there on; holds-nothing: nothing known is true of every text
 --   computing          CasesHold outcomes: to unfold it is to unfold all that computing a scan goes through
 --   in order and apart LinksLaws links-apart *, links-of-apart: each link starts at or after the end of the one before
 --   appending          on s ++ 10 ∷ t, for `Tail t` and `Body s`: AppendingLaws scan-lf: a link found in s is found alike; scan-none-lf:

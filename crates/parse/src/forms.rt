@@ -4,8 +4,8 @@ ghost use Rattle.rst_bytes.specs.Line.{is_space};
 ghost use Rattle.parse.specs.Link.{found_of, FoundEnds, behind};
 ghost use Rattle.parse.specs.Forms.{tried, rst};
 ghost use Rattle.parse.specs.Scan.{consumed_of, followed};
-ghost use Rattle.parse.specs.Inner.{Holds, Learns, long_from};
-ghost use Rattle.parse.specs.Place.{rest_of, Ready};
+ghost use Rattle.parse.specs.Inner.{Holds, long_from};
+ghost use Rattle.parse.specs.Place.{rest_of, found_at, Ready, Learns};
 
 use crate::place::Place;
 use crate::{Known, Link};
@@ -79,9 +79,9 @@ fn with_unreported(place: Place, n: usize, scratch: &mut [u8], known: &mut Known
 // An anonymous embedded link, else a named one.
 pub fn embedded(place: Place, scratch: &mut [u8], known: &mut Known) -> Option<Link>
     requires { Ready place known.old scratch.old }
-    ensures scan { found_of result scratch.new ≡ behind place.entry.at (followed rst (rest_of place.entry) (tried rst.embedded (rest_of place.entry))) }
+    ensures scan { found_of result scratch.new ≡ found_at place.entry (tried rst.embedded (rest_of place.entry)) }
     ensures ends { FoundEnds result }
-    ensures known { Learns place.entry.text.now place.entry.marks.now known.old known.new result }
+    ensures known { Learns place.entry known.old known.new result }
 {
     if let Ok((a, b, n)) = rst_text2dest(place.rest(), scratch) {
         let m = with_unreported(place, n, scratch, known);
@@ -97,9 +97,9 @@ pub fn embedded(place: Place, scratch: &mut [u8], known: &mut Known) -> Option<L
 // A reference.
 pub fn reference(place: Place, scratch: &mut [u8], known: &mut Known) -> Option<Link>
     requires { Ready place known.old scratch.old }
-    ensures scan { found_of result scratch.new ≡ behind place.entry.at (followed rst (rest_of place.entry) (tried rst.references (rest_of place.entry))) }
+    ensures scan { found_of result scratch.new ≡ found_at place.entry (tried rst.references (rest_of place.entry)) }
     ensures ends { FoundEnds result }
-    ensures known { Learns place.entry.text.now place.entry.marks.now known.old known.new result }
+    ensures known { Learns place.entry known.old known.new result }
 {
     let Ok((a, b, n)) = rst_text2label(place.rest(), scratch) else {
         return None;

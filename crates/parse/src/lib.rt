@@ -119,6 +119,7 @@ pub fn next_link(s: &[u8], scratch: &mut [u8], marks: &mut [u8], mut known: Know
     let mut i = 0;
     let mut input_start = true;
     let mut calm = Calm::default();
+    // No `for`: a turn passes as many bytes as it finds.
     while i < s.len() {
         let mut next = calm.pass(s, i, input_start);
         if next == i {

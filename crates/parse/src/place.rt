@@ -12,7 +12,7 @@ pub struct Place<'a> {
     pub marks: &'a [u8],
     pub at: usize,
     ghost inside: { at ≤ length text.now },
-    ghost barred: { Barred 0 marks.now text.now } by { Prim.hlevel props },
+    ghost barred: { Barred marks.now text.now } by { Prim.hlevel props },
 }
 
 impl<'a> Place<'a> {

@@ -25,8 +25,8 @@ ghost use Rattle.parse.specs.Scan.{
   round_of,
   later,
 };
-ghost use Rattle.parse.specs.Inner.{Shut, Barren, Holds, Learns, going_on, step_of, StepEnds, StepHolds};
-ghost use Rattle.parse.specs.Place.{rest_of, Ready};
+ghost use Rattle.parse.specs.Inner.{Shut, Barren, Holds, going_on, step_of, StepEnds};
+ghost use Rattle.parse.specs.Place.{rest_of, IsTick, found_at, Ready, Learns, StepHolds};
 
 use crate::backtick::unclosed;
 use crate::barren::{barren, is_bracketed};
@@ -59,9 +59,10 @@ fn block_step(
     known: &mut Known,
 ) -> ControlFlow<Option<Link>>
     requires { Ready place known.old scratch.old }
-    ensures step { going_on result scratch.new (λ _. later place.entry.at (blank_round rst line (rest_of place.entry))) ≡ later place.entry.at (line_round rst line (rest_of place.entry)) }
+    ensures step { going_on result scratch.new (λ _. later place.entry.at (blank_round rst line (rest_of place.entry)))
+        ≡ later place.entry.at (line_round rst line (rest_of place.entry)) }
     ensures ends { StepEnds result }
-    ensures known { StepHolds place.entry.text.now place.entry.marks.now known.new (λ _. place.entry.at) result }
+    ensures known { StepHolds place.entry known.new (λ _. place.entry.at) result }
 {
     if !is_read(place, line, *known) {
         return ControlFlow::Continue(());
@@ -92,9 +93,9 @@ fn reference_at(
 ) -> Option<Link>
     requires inside { place.at < length place.text.now }
     requires ready { Ready place known.old scratch.old }
-    ensures scan { found_of result scratch.new ≡ behind place.entry.at (followed rst (rest_of place.entry) (reference_at rst spaced (rest_of place.entry))) }
+    ensures scan { found_of result scratch.new ≡ found_at place.entry (reference_at rst spaced (rest_of place.entry)) }
     ensures ends { FoundEnds result }
-    ensures known { Learns place.entry.text.now place.entry.marks.now known.old known.new result }
+    ensures known { Learns place.entry known.old known.new result }
 {
     if !spaced {
         return None;
@@ -105,11 +106,11 @@ fn reference_at(
 
 // (d) at a backtick.
 fn embedded_at(place: Place, scratch: &mut [u8], known: &mut Known) -> Option<Link>
-    requires tick { place.at < length place.text.now × (get_or place.text.now place.at 0 ≡ 0x60) }
+    requires tick { IsTick place }
     requires ready { Ready place known.old scratch.old }
-    ensures scan { found_of result scratch.new ≡ behind place.entry.at (followed rst (rest_of place.entry) (tried rst.embedded (rest_of place.entry))) }
+    ensures scan { found_of result scratch.new ≡ found_at place.entry (tried rst.embedded (rest_of place.entry)) }
     ensures ends { FoundEnds result }
-    ensures known { Learns place.entry.text.now place.entry.marks.now known.old known.new result }
+    ensures known { Learns place.entry known.old known.new result }
 {
     if is_bracketed(place.rest()) {
         embedded(place, scratch, known)
@@ -120,11 +121,11 @@ fn embedded_at(place: Place, scratch: &mut [u8], known: &mut Known) -> Option<Li
 
 // (d) and (e) at a backtick.
 fn inline_at(place: Place, scratch: &mut [u8], spaced: bool, known: &mut Known) -> Option<Link>
-    requires tick { place.at < length place.text.now × (get_or place.text.now place.at 0 ≡ 0x60) }
+    requires tick { IsTick place }
     requires ready { Ready place known.old scratch.old }
     ensures scan { found_of result scratch.new ≡ behind place.entry.at (inline_at rst spaced (rest_of place.entry)) }
     ensures ends { FoundEnds result }
-    ensures known { Learns place.entry.text.now place.entry.marks.now known.old known.new result }
+    ensures known { Learns place.entry known.old known.new result }
 {
     if let Some(x) = embedded_at(place, scratch, known) {
         return Some(x);
@@ -185,11 +186,11 @@ fn backtick_round(
     spaced: bool,
     known: &mut Known,
 ) -> ControlFlow<Option<Link>, usize>
-    requires tick { place.at < length place.text.now × (get_or place.text.now place.at 0 ≡ 0x60) }
+    requires tick { IsTick place }
     requires ready { Ready place known.old scratch.old }
     ensures step { step_of result scratch.new ≡ later place.entry.at (text_round rst spaced (rest_of place.entry)) }
     ensures ends { StepEnds result }
-    ensures known { StepHolds place.entry.text.now place.entry.marks.now known.new (λ next. next) result }
+    ensures known { StepHolds place.entry known.new (λ next. next) result }
 {
     let shut = shut_from(place, known.shut);
     if place.at < shut {
@@ -214,7 +215,7 @@ fn text_round(
     requires { Ready place known.old scratch.old }
     ensures step { step_of result scratch.new ≡ later place.entry.at (text_round rst spaced (rest_of place.entry)) }
     ensures ends { StepEnds result }
-    ensures known { StepHolds place.entry.text.now place.entry.marks.now known.new (λ next. next) result }
+    ensures known { StepHolds place.entry known.new (λ next. next) result }
 {
     if place.at == place.text.len() {
         return ControlFlow::Break(None);
@@ -238,7 +239,7 @@ pub fn round(
     requires { Ready place known.old scratch.old }
     ensures step { step_of result scratch.new ≡ later place.entry.at (round_of rst start (rest_of place.entry)) }
     ensures ends { StepEnds result }
-    ensures known { StepHolds place.entry.text.now place.entry.marks.now known.new (λ next. next) result }
+    ensures known { StepHolds place.entry known.new (λ next. next) result }
 {
     let n = newlines(place.rest());
     place.at += n;

@@ -25,27 +25,20 @@ use Rattle.restructured_text.specs.Block.{start_of, three, cut_of, line_at, furt
 abbrev pub from : List ℕ → ℕ → List ℕ
 from s a = take (length s - a) (drop a s)
 
--- The indent, of a bytes, and the start.
-module _ (s : List ℕ) (a : ℕ) (is : a ≡ space0_of s) where
-  pub indent-le : a ≤ length s
-  indent-le = omega (arith, space0-le s)
+-- The start, behind the indent of a bytes.
+module _ (s : List ℕ) (a : ℕ) (is : a ≡ space0_of s) (header : List ℕ) where
+  at-start : starts_with header (from s a) ≡ starts_with header (drop (space0_of s) s)
+  at-start = ap (starts_with header) (part-from s a) ∙ ap (λ (n : ℕ). starts_with header (drop n s)) is
 
-  pub indent-length : a ≡ length (take a s)
-  indent-length = sym (length-take-le a s indent-le)
+  -- the header stands there
+  pub start-taken : starts_with header (from s a) ≡ true → start_of header s ≡ Some (a + length header)
+  unfolding start_of
+  start-taken e = simp (is, sym at-start ∙ e, start_of)
 
-  module _ (header : List ℕ) where
-    at-start : starts_with header (from s a) ≡ starts_with header (drop (space0_of s) s)
-    at-start = ap (starts_with header) (part-from s a) ∙ ap (λ (n : ℕ). starts_with header (drop n s)) is
-
-    -- the header stands there
-    pub start-taken : starts_with header (from s a) ≡ true → start_of header s ≡ Some (a + length header)
-    unfolding start_of
-    start-taken e = simp (is, sym at-start ∙ e, start_of)
-
-    -- it does not
-    pub start-refused : starts_with header (from s a) ≡ false → start_of header s ≡ None
-    unfolding start_of
-    start-refused e = simp (sym at-start ∙ e, start_of)
+  -- it does not
+  pub start-refused : starts_with header (from s a) ≡ false → start_of header s ≡ None
+  unfolding start_of
+  start-refused e = simp (sym at-start ∙ e, start_of)
 
 -- The start is the indent and the header, and is within the text.
 abbrev StartIn : List ℕ → List ℕ → Option ℕ → Type 0
@@ -84,33 +77,6 @@ module _ (indent s : List ℕ) (k : ℕ) (e : line_ending_of s ≡ Some k) where
   unfolding cut_of
   cut-test = simp (e, starts-append, cut_of)
 
-  -- the indent does not stand there
-  pub cut-other : starts_with indent (from s k) ≡ false → cut_of indent s ≡ None
-  unfolding cut_of
-  cut-other f = simp (e, rw part-from at f, cut_of)
-
-  module _ (f : starts_with indent (from s k) ≡ true) where
-    behind : starts_with three (from (from s k) (length indent)) ≡ starts_with three (drop (length indent) (drop k s))
-    behind = ap (starts_with three) (part-from (from s k) (length indent) ∙ ap (drop (length indent)) (part-from s k))
-
-    -- no three spaces stand behind it
-    pub cut_short : starts_with three (from (from s k) (length indent)) ≡ false → cut_of indent s ≡ None
-    unfolding cut_of
-    cut_short g = simp (e, rw part-from at f, sym behind ∙ g, cut_of)
-
-    -- they do
-    pub cut-taken : starts_with three (from (from s k) (length indent)) ≡ true → cut_of indent s ≡ Some (k + length indent + 3)
-    unfolding cut_of
-    cut-taken g = simp (e, rw part-from at f, sym behind ∙ g, cut_of)
-
--- two tags, one behind the other, behind the k bytes of a line's end are within the text
-pub tags-fit : (p q s : List ℕ) (k : ℕ) → line_ending_of s ≡ Some k → starts_with p (from s k) ≡ true → starts_with q (from (from s k) (length p)) ≡ true → k + length p + length q ≤ length s
-tags-fit p q s k e f g =
-    let a = starts-le p (from s k) f in
-    let b = starts-le q (from (from s k) (length p)) g in
-    omega
-    (arith, line-ending-le s k e, ap length (part-from s k), length-drop k s, ap length (part-from (from s k) (length p)), length-drop (length p) (from s k))
-
 -- What is cut, if anything is, is more than three bytes and at most k.
 abbrev CutIn : ℕ → Option ℕ → Type 0
 CutIn k (Some a) = (3 < a) × (a ≤ k)
@@ -147,14 +113,6 @@ module _ (indent s : List ℕ) (a : ℕ) (e : cut_of indent s ≡ Some a) where
   further-some : further_of indent s ≡ line_at a (not_line_ending_of (drop a s))
   unfolding further_of
   further-some = simp (e, further_of)
-
-  -- a CR without LF
-  pub further-refused : not_line_ending_of (from s a) ≡ None → further_of indent s ≡ None
-  further-refused f = further-some ∙ ap (line_at a) (rw part-from at f)
-
-  -- the text of a line
-  pub further-taken : (n : ℕ) → not_line_ending_of (from s a) ≡ Some n → further_of indent s ≡ Some (a, n)
-  further-taken n f = further-some ∙ ap (line_at a) (rw part-from at f)
 
 -- What is cut is more than three bytes, and the line is within k.
 abbrev FurtherIn : ℕ → Option (ℕ × ℕ) → Type 0

@@ -141,24 +141,14 @@ module _ (l : List ℕ) (p q : ℕ) (r s t : List ℕ) (k : is_stop p q 10 ≡ f
       go true b = part b _ refl
       go false b = delimited-none l p q r (s ++ 10 ∷ t) (starts-lf l s t fl ∙ b) ∙ sym (delimited-none l p q r s b)
 
--- `ends_with` by the code's tests: v is the last part of the text, as long as t.
-module _ (t s : List ℕ) where
-  pub ends-short : length s < length t → ends_with t s ≡ false
-  unfolding ends_with
-  ends-short h = simp (lt-leb (length t) (length s) h)
-
-  pub ends_last : (v : List ℕ) → length t ≤ length s → v ≡ drop (length s - length t) s → starts_with t v ≡ ends_with t s
-  unfolding ends_with
-  ends_last v h e = simp (le-leb (length t) (length s) h, e)
-
-  -- a text is as long as what it ends with
-  pub ends-le : ends_with t s ≡ true → length t ≤ length s
-  unfolding ends_with
-  ends-le e = go (leb (length t) (length s)) refl e
-    where
-      go : (x : Bool) → leb (length t) (length s) ≡ x → (x && starts_with t (drop (length s - length t) s)) ≡ true → length t ≤ length s
-      go true f g = leb-true (length t) (length s) f
-      go false f g = absurd (false≢true g)
+-- A text is as long as what it ends with.
+pub ends-le : (t s : List ℕ) → ends_with t s ≡ true → length t ≤ length s
+unfolding ends_with
+ends-le t s e = go (leb (length t) (length s)) refl e
+  where
+    go : (x : Bool) → leb (length t) (length s) ≡ x → (x && starts_with t (drop (length s - length t) s)) ≡ true → length t ≤ length s
+    go true f g = leb-true (length t) (length s) f
+    go false f g = absurd (false≢true g)
 
 -- a backticked run and its backticks lie within the text
 pub backticked-within : (anonym : Bool) (s : List ℕ) (n : ℕ) → backticked_of anonym s ≡ Some n → n + 1 + length (closing anonym) ≤ length s

@@ -70,10 +70,6 @@ module _
         same (inl q) = q
         same (inr q) = absurd (omega arith)
 
--- there are no such parts
-pub finished-none : (t : Bool) (s d : List ℕ) (x : Option Spans) → x ≡ None → length s ≤ length d → none ≡ lent s d (finished_of t s x)
-finished-none t s d x e h = ap (finished_of t s) (sym e) ∙ lent-enough s d (finished_of t s x) h
-
 -- What is consumed, and how long the strings are: no longer than the raw parts.
 finished-consumed :
     (t : Bool) (s : List ℕ) (z : Option Spans) (x y : List ℕ) (n : ℕ) → Within (length s) z → finished_of t s z ≡ link x y n

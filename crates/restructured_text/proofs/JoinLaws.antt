@@ -67,11 +67,6 @@ pub record Joins (indent s d₀ d r : List ℕ) (m n : ℕ) : Type 0 where
   pub read : length s - length r + (lines_of indent 0 r).read ≡ (lines_of indent 0 s).read
   pub text : take n d ++ (lines_of indent 0 r).text ≡ take m d₀ ++ (lines_of indent 0 s).text
 
--- nothing is read
-pub joins-start : (indent s d : List ℕ) (m : ℕ) → m + length s ≤ length d → Joins indent s d d s m m
-joins-start indent s d m h =
-    record { first = omega arith; within = omega arith; room = omega arith; len = refl; read = omega arith; text = refl }
-
 module _ {indent s d₀ d r : List ℕ} {m n : ℕ} (st : Joins indent s d₀ d r m n) where
   -- One more line, of len bytes behind a bytes.
   module _ (a len : ℕ) (e : further_of indent r ≡ Some (a, len)) where

@@ -28,13 +28,9 @@ given-whole (refused l) y i e f = absurd (text-wrong i e)
 paired-whole : (g h : Given) (x y : List ℕ) (n : ℕ) → g ≡ whole x → h ≡ whole y → paired g h n ≡ link x y n
 paired-whole g h x y n e f = rw (e, f)
 
--- the first one is refused
-paired-refused : (g h : Given) (x : List ℕ) (n : ℕ) → g ≡ refused x → paired g h n ≡ none
-paired-refused g h x n e = rw e
-
 -- the second one is refused
-paired-refused₂ : (g h : Given) (x y : List ℕ) (n : ℕ) → g ≡ whole x → h ≡ refused y → paired g h n ≡ none
-paired-refused₂ g h x y n e f = rw (e, f)
+paired-refused : (g h : Given) (x y : List ℕ) (n : ℕ) → g ≡ whole x → h ≡ refused y → paired g h n ≡ none
+paired-refused g h x y n e f = rw (e, f)
 
 -- What a transform answered and left in y, of a raw part r.
 pub record Told (t : Bool) (r y : List ℕ) (x : Option ℕ) : Type 0 where
@@ -78,7 +74,7 @@ module _ (t : Bool) (a k b m n : ℕ) (d x y : List ℕ) (h : a + k ≤ b) (h' :
 
   -- the second one refused
   second-wrong : (i : ℕ) → Told false (mid_of a k d) x (Some i) → Told t (mid_of b m (put_mid a k d x)) y None → none ≡ paired (text_of (mid_of a k d)) (transform_of t (mid_of b m d)) n
-  second-wrong i u v = sym (paired-refused₂ _ _ _ _ n (told-whole u) (ap (transform_of t) (sym (second u.len)) ∙ told-wrong v))
+  second-wrong i u v = sym (paired-refused _ _ _ _ n (told-whole u) (ap (transform_of t) (sym (second u.len)) ∙ told-wrong v))
 
 -- The same for the parts that two spans name, which the code lends from the start to the end.
 
@@ -109,23 +105,6 @@ module _ (t : Bool) (a b : Span) (n : ℕ) (d x y : List ℕ) (h : (a.start + a.
       (i : ℕ) → Told false (mid_of a.start (reach a) d) x (Some i)
       → Told t (mid_of b.start (reach b) (put_mid a.start (reach a) d x)) y None → none ≡ linked t d a b n
   linked-second i u v = second-wrong t a.start (reach a) b.start (reach b) n d x y (omega arith) (omega arith) (omega arith) i u v ∙ linked-reach t d a b n
-
--- the first one refused
-pub linked-first : (t : Bool) (a b : Span) (n : ℕ) (d x : List ℕ) → Told false (mid_of a.start (reach a) d) x None → none ≡ linked t d a b n
-linked-first t a b n d x u = sym (paired-refused _ _ _ n (told-wrong u)) ∙ linked-reach t d a b n
-
--- one part as both strings
-pub linked-shared :
-    (a : Span) (n : ℕ) (d x : List ℕ) → (a.start + a.len ≤ n) × (n ≤ length d) → (i : ℕ)
-    → Told false (mid_of a.start (reach a) d) x (Some i)
-    → (link (take i (drop a.start (put_mid a.start (reach a) d x))) (take i (drop a.start (put_mid a.start (reach a) d x))) n ≡ linked false d a a n)
-    × ((a.start + i ≤ n) × (a.start + i ≤ n))
-linked-shared a n d x h i u =
-    let p : length (mid_of a.start (reach a) d) ≡ reach a = part_length a.start (reach a) d (omega arith) in
-    let i≤ : i ≤ length x = told-le u in
-    let e : take i (drop a.start (put_mid a.start (reach a) d x)) ≡ take i x = put-here a.start (reach a) d x i (omega arith) i≤ in
-    let l : a.start + i ≤ n = omega (arith, u.len) in
-    (rw e (sym (paired-whole _ _ _ _ n (told-whole u) (told-whole u))) ∙ linked-reach false d a a n, (l, l))
 
 -- a span within the text's first n bytes: only these matter
 part-copied : (a : Span) (s x : List ℕ) (n : ℕ) → a.start + a.len ≤ n → n ≤ length s → part a (take n s ++ x) ≡ part a s

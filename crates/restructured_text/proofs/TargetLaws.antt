@@ -167,9 +167,6 @@ module _ (s : List ℕ) (name : Span) (k : ℕ) (e : name_of s ≡ Some (name, k
   pub name-within : k ≤ length s
   name-within = (subst (NameIn (length s)) e (name_in s)).2
 
-  pub target-within : (label : Bool) (v : List ℕ) (t : Span) → v ≡ drop k s → rest_of label v ≡ Some t → k + t.start ≤ length s
-  target-within label v t iv f = omega (arith, name-within, subst (RestIn (length v)) f (rest_in label v), ap length iv, length-drop k s)
-
 -- Name and target stand one behind the other.
 pub parse-apart : (label : Bool) (s : List ℕ) → Apart (length s) (parse_label2target_of label s)
 parse-apart label s = go (name_of s) refl (name_in s)
@@ -554,38 +551,6 @@ module _ (s d d' : List ℕ) (x : Result (ℕ × ℕ) ParseError) (l : length d'
     target-neither d''' NotFound i = (second (Err NotFound) i true, (second (Err NotFound) i false, (tt, tt)))
     target-neither d''' NoRoom i = (second (Err NoRoom) i true, (second (Err NoRoom) i false, (tt, tt)))
 
--- With a destination, or with an alias.
-pub dest-lent : (s d : List ℕ) → lent s d (label2target_of false s) ≡ lent s d (label2dest_of s)
-unfolding label2dest_of
-dest-lent s d = refl
-
-pub label-lent : (s d : List ℕ) → lent s d (label2target_of true s) ≡ lent s d (label2label_of s)
-unfolding label2label_of
-label-lent s d = refl
-
--- With the one that is asked for, by the answer of the reader of both.
-module _ (label : Bool) (x y : Result Definition ParseError) (i : x ≡ y) where
-  pub asked-alias : label ≡ true → alias_in y ≡ asked_of label x
-  asked-alias e = rw (e, i)
-
-  pub asked-destination : label ≡ false → destination_in y ≡ asked_of label x
-  asked-destination e = rw (e, i)
-
-  -- both are the same
-  pub asked-either : alias_in y ≡ destination_in y → alias_in y ≡ asked_of label x
-  asked-either f = go label refl
-    where
-      go : (l : Bool) → label ≡ l → alias_in y ≡ asked_of label x
-      go true e = asked-alias e
-      go false e = f ∙ asked-destination e
-
-pub asked-both :
-    (s d d' : List ℕ) (label : Bool) (x : Result Definition ParseError) (y : Result Spans ParseError) → strings_of (alias_in x) d' ≡ lent s d (label2label_of s)
-    → strings_of (destination_in x) d' ≡ lent s d (label2dest_of s) → Ends (alias_in x) × Ends (destination_in x) → y ≡ asked_of label x
-    → (strings_of y d' ≡ lent s d (label2target_of label s)) × Ends y
-asked-both s d d' true x y f g w e = (ap (λ (z : Result Spans ParseError). strings_of z d') e ∙ f ∙ sym (label-lent s d), subst⁻¹ Ends e w.0)
-asked-both s d d' false x y f g w e = (ap (λ (z : Result Spans ParseError). strings_of z d') e ∙ g ∙ sym (dest-lent s d), subst⁻¹ Ends e w.1)
-
 -- What a link consumes: at least one byte, at most `size`, and as many as its strings have together. There is no want of scratch.
 abbrev LinkIn : ℕ → Link → Type 0
 LinkIn size (link x y n) = (0 < n) × (n ≤ size) × (length x + length y ≤ n)
@@ -735,22 +700,6 @@ module _ (s t : List ℕ) (h : Tail t) (b : Body s) where
   pub label2label-lf : label2label_of (s ++ 10 ∷ t) ≡ label2label_of s
   unfolding label2label_of
   label2label-lf = label2target-lf true
-
--- Where a target starts, by the code's tests: a bytes are the indent, and v is what stands behind it.
-module _ (s v : List ℕ) (a : ℕ) (is : a ≡ space0_of s) (iv : v ≡ from s a) where
-  behind-indent : v ≡ drop (space0_of s) s
-  behind-indent = iv ∙ part-from s a ∙ ap (λ (n : ℕ). drop n s) is
-
-  pub starts-named : starts_with (0x2E ∷ 0x2E ∷ 0x20 ∷ 0x5F ∷ []) v ≡ true → starts_target s ≡ true
-  unfolding starts_target
-  starts-named e =
-      ap (λ (b : Bool). b || starts_with strokes (drop (space0_of s) s)) (sym (ap (starts_with (0x2E ∷ 0x2E ∷ 0x20 ∷ 0x5F ∷ [])) behind-indent) ∙ e)
-
-  pub starts-anonymous : starts_with (0x2E ∷ 0x2E ∷ 0x20 ∷ 0x5F ∷ []) v ≡ false → starts_target s ≡ starts_with strokes v
-  unfolding starts_target
-  starts-anonymous e =
-      ap (λ (b : Bool). b || starts_with strokes (drop (space0_of s) s)) (sym (ap (starts_with (0x2E ∷ 0x2E ∷ 0x20 ∷ 0x5F ∷ [])) behind-indent) ∙ e)
-      ∙ ap (starts_with strokes) (sym behind-indent)
 
 -- Where no target starts there is none: the text of a `.. ` block begins with what stands behind that header, or with the space before
 -- its second line.

@@ -89,18 +89,6 @@ module _ (anonym label : Bool) (s : List ℕ) where
     unfolding text2target_of
     form-inside w f iw = simp (e, ← iv, f, ← iw, text2target_of)
 
-  -- the same, `end` being what the code counts
-  module _ (n end : ℕ) (v w : List ℕ) (e : backticked_of anonym s ≡ Some n) (ie : end ≡ n + 1 + length (closing anonym)) (iv : v ≡ drop end s) where
-    pub form-follows : starts_with (0x5F ∷ []) v ≡ true → text2target_of anonym label s ≡ None
-    form-follows f = form-more n v e (iv ∙ ap (λ (k : ℕ). drop k s) ie) f
-
-    module _ (f : starts_with (0x5F ∷ []) v ≡ false) (iw : w ≡ take n (drop 1 s)) where
-      pub form-wrong : inside_of label w ≡ None → text2target_of anonym label s ≡ None
-      form-wrong g = form-inside n v e (iv ∙ ap (λ (k : ℕ). drop k s) ie) w f iw ∙ ap (behind_of _) g
-
-      pub form-parsed : (x : Option Spans) → inside_of label w ≡ x → text2target_of anonym label s ≡ behind_of end x
-      form-parsed x g = form-inside n v e (iv ∙ ap (λ (k : ℕ). drop k s) ie) w f iw ∙ ap (behind_of _) g ∙ ap (λ (k : ℕ). behind_of k x) (sym ie)
-
 -- Spans that stand one behind the other within the n bytes, at least one, that are consumed of a text of
 -- `size` bytes.
 abbrev pub Apart : ℕ → Option Spans → Type 0

@@ -340,10 +340,6 @@ pub answer-refused : (g : Given) → None ≡ answer_of g → g ≡ refused (byt
 answer-refused (whole l) e = absurd (text-wrong (length l) (sym e))
 answer-refused (refused l) e = refl
 
--- what dropping whitespace wrote stands within the text
-pub kept-within : (s d : List ℕ) (n : ℕ) → Some n ≡ answer_of (kept_of s) → d ≡ over (bytes_of (kept_of s)) s → n ≤ length d
-kept-within s d n e f = (answer-part (kept_of s) s d n e f).1
-
 -- the part is unescaped
 pub destination-part :
     (s d x : List ℕ) (n : ℕ) (r : Option ℕ) → Some n ≡ answer_of (kept_of s) → d ≡ over (bytes_of (kept_of s)) s
@@ -360,18 +356,6 @@ pub destination-wrong :
 destination-wrong s d e f =
     let w : destination_of s ≡ refused (bytes_of (kept_of s)) = destination-refused s _ (answer-refused (kept_of s) e) in
     rw w (refl, f ∙ sym (over-again (bytes_of (kept_of s)) s))
-
--- One of the two transforms, by the code's test: what it answered, and that what it gives stands at the front.
-module _ (t : Bool) (s d x : List ℕ) (r : Option ℕ) where
-  pub transform-destination :
-      t ≡ true → r ≡ answer_of (destination_of s) → x ≡ over (bytes_of (destination_of s)) d → (r ≡ answer_of (transform_of t s))
-      × (take (length (bytes_of (transform_of t s))) x ≡ bytes_of (transform_of t s))
-  transform-destination e a b = rw e (a, rw b (over-front (bytes_of (destination_of s)) d))
-
-  pub transform-text :
-      t ≡ false → r ≡ answer_of (text_of s) → x ≡ over (bytes_of (text_of s)) d → (r ≡ answer_of (transform_of t s))
-      × (take (length (bytes_of (transform_of t s))) x ≡ bytes_of (transform_of t s))
-  transform-text e a b = rw e (a, rw b (over-front (bytes_of (text_of s)) d))
 
 -- A byte that is neither a backslash nor whitespace, by both readings.
 bare_apart : (b : ℕ) → is_bare b ≡ true → (eqb b 0x5C ≡ false) × (is_multispace b ≡ false)

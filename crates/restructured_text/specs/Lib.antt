@@ -17,6 +17,7 @@
 --                both of these             target::rst_target                                 one with either, read once (Definition)
 --                starts_target             target::starts_target                              what starts a target: `.. _`, or `__ `
 --   Transform    is_destination_escapable  transform::is_destination_escapable                what may be escaped in a destination
+--   Strings      part                      Span::of                                           the bytes that a span names
 -- Delimited says what a part between two tags is. Strings says what an answer means with the scratch as the parser left it, and
 -- that a scratch as long as the input is enough and is asked for; the strings then end within as many bytes of it as are consumed
 -- (Ends, part of each contract). Inner is what the contracts of private functions speak of.

@@ -30,11 +30,9 @@ pub fn transformed(
     ensures strings { strings_of result d.new ≡ linked destination d.old a b n }
     ensures ends { Ends result }
 {
-    let a0 = a.start;
-    let b0 = b.start;
-    let i = transform(&mut d[a0..a0 + a.len], false).ok_or(ParseError::NotFound)?;
-    let j = transform(&mut d[b0..b0 + b.len], destination).ok_or(ParseError::NotFound)?;
-    Ok((Span { start: a0, len: i }, Span { start: b0, len: j }, n))
+    let i = transform(&mut d[a.start..a.start + a.len], false).ok_or(ParseError::NotFound)?;
+    let j = transform(&mut d[b.start..b.start + b.len], destination).ok_or(ParseError::NotFound)?;
+    Ok((Span { len: i, ..a }, Span { len: j, ..b }, n))
 }
 
 // One raw part that stands in d, as both strings.
@@ -43,8 +41,7 @@ pub fn shared(d: &mut [u8], a: Span, n: usize) -> Result<Spans, ParseError>
     ensures strings { strings_of result d.new ≡ linked false d.old a a n }
     ensures ends { Ends result }
 {
-    let a0 = a.start;
-    let len = transform(&mut d[a0..a0 + a.len], false).ok_or(ParseError::NotFound)?;
-    let span = Span { start: a0, len };
+    let len = transform(&mut d[a.start..a.start + a.len], false).ok_or(ParseError::NotFound)?;
+    let span = Span { len, ..a };
     Ok((span, span, n))
 }

@@ -135,6 +135,7 @@ fn is_wrong(d: &[u8]) -> bool
     ensures { result ≡ is_refused (kept_of d.now) }
 {
     let mut rest = d;
+    // No `for`: an escape takes two bytes.
     loop {
         rest = &rest[free_front(rest, b'\\', b'\\', b'\\')..];
         for _ in 0..16usize {

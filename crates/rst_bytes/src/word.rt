@@ -73,6 +73,7 @@ pub fn word_run(s: &[u8]) -> usize
     ensures { result ≡ word_of s.now }
 {
     let mut i = 0;
+    // No `for`: a character takes one byte or two.
     while i < s.len() {
         let b = s[i];
         if b < 0x80 {

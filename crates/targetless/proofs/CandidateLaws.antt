@@ -1,157 +1,149 @@
 -- The laws of a block that begins with `.. _` or `__ `, one for each way through the bodies that ask whether it is no target: the text begins with
 -- the line's bytes up to its end, so what is told of the next places is told of the rest of the text.
 -- Assumes nothing.
-use Rattle.std.proofs.Common.{Some}
-use Prim.Native.Nat.{ℕ, ◌+◌, ◌-◌, ◌<◌, ◌≤◌}
-use native.Mathlib.Omega.{arith}
-use mathlib.Core.Path.{◌≡◌, refl, sym, ap, subst⁻¹, ◌∙◌}
-use mathlib.Core.List.{List, [], ◌∷◌, ◌++◌}
-use mathlib.Core.Bool.{Bool, true, false}
-use mathlib.Core.Logic.{◌⊎◌, inl, inr, ⊎_elim}
-use lib.ListN.{length, get_or, drop, take}
-use lib.Seq.{get_or-drop}
-use Rattle.rst_bytes.specs.Line.{not_line_ending_of}
+use Rattle.std.proofs.Common.{◌≡◌, ℕ, suc, ◌+◌, ◌-◌, ◌<◌, ◌≤◌, List, [], ◌∷◌, ◌++◌, Bool, true, false, Option, Some, None, ◌⊎◌, inl, inr, ⊎_elim, length, get_or, take, drop, length-append, append_assoc, refl, sym, ap, subst, ◌∙◌, arith}
+use Rattle.std.specs.Prelude.{IfSome}
+use Rattle.std.specs.Bool.{then_some}
+use mathlib.Core.Path.{subst⁻¹}
 use Rattle.rst_bytes.specs.Tag.{starts_with}
-use Rattle.rst_bytes.proofs.Lists.{part-from}
-use Rattle.rst_bytes.proofs.TagLaws.{starts-append}
-use Rattle.restructured_text.specs.Block.{three, further_of}
+use Rattle.rst_bytes.specs.Line.{not_line_ending_of}
+use Rattle.std.proofs.lemmas.List.{drop-append-le, take-append-drop}
+use Rattle.std.proofs.lemmas.Option.{IfSome_then}
+use Rattle.rst_bytes.proofs.Lists.{part-from, drop-two, drop-last, drop-end}
+use Rattle.restructured_text.specs.Block.{three}
 use Rattle.restructured_text.proofs.BlockLaws.{from}
-use Rattle.targetless.specs.declared.Verdict.{Verdict}
-use Rattle.targetless.specs.declared.line.Walk.{Walk}
+use Rattle.targetless.specs.declared.verdict.Verdict.{Verdict}
+use Rattle.targetless.specs.declared.walk.Walk.{Walk}
 use Rattle.targetless.specs.Targetless.{NoTarget}
-use Rattle.targetless.specs.Verdict.{joined_of, is_further, Blank, ends_line, judged_of, Tells}
+use Rattle.targetless.specs.Verdict.{joined_of, OfText, Blank, ends_line, judged_of, Tells, Flagged}
 use Rattle.targetless.specs.Runs.{Unnamed, is_dead, plain_run, quoted_run, closed_run}
-use Rattle.targetless.specs.Walk.{Walked, Indented, Headed}
-use Rattle.targetless.proofs.TextLaws.{text-byte}
-use Rattle.targetless.proofs.RunLaws.{starts-at}
+use Rattle.targetless.specs.Walk.{Lined, Walked, header_of}
+use Rattle.targetless.proofs.TextLaws.{first-is, line_refused, line_taken, text-byte}
 use Rattle.targetless.proofs.NameLaws.{unnamed-empty, unnamed-plain, unnamed-quoted}
-use Rattle.targetless.proofs.TargetLaws.{blank-indent, no-target-dead, no-target-unnamed, no-target-refused}
-use Rattle.targetless.proofs.VerdictLaws.{and_both}
-use Rattle.targetless.proofs.StateLaws.{first_byte_lem, second, followed, two}
-
--- The flag says whether a further line follows.
-abbrev pub Flagged : Bool → List ℕ → List ℕ → Type 0
-Flagged on indent s = (n : ℕ) → not_line_ending_of s ≡ Some n → on ≡ is_further (further_of indent (drop n s))
+use Rattle.targetless.proofs.TargetLaws.{dots-refused, dots-unnamed, strokes-refused, strokes-dead}
+use Rattle.targetless.proofs.StateLaws.{first-not}
 
 -- A verdict that the flag selects is true of the text.
-told-by :
-    (g : List ℕ → Bool) (v : Verdict) (s indent : List ℕ) (on : Bool) (n : ℕ) → Tells g v s → Blank indent → not_line_ending_of s ≡ Some n
-    → on ≡ is_further (further_of indent (drop n s)) → judged_of v on (length indent) ≡ true → g (joined_of indent n s) ≡ true
-told-by g v s indent on n k b t o j = k indent n b t (ap (λ (x : Bool). judged_of v x (length indent)) (sym o) ∙ j)
+told-text :
+    (g : List ℕ → Bool) (v : Verdict) (s indent : List ℕ) (on : Bool) → Tells g v s → Blank indent → Flagged on indent s
+    → judged_of v on (length indent) ≡ true → OfText (λ t. g t ≡ true) indent s
+told-text g v s indent on t b o j n e = t.told indent n b e (ap (λ (x : Bool). judged_of v x (length indent)) (sym (o n e)) ∙ j)
 
--- A text that begins with `_` at place e.
-module _ (s indent : List ℕ) (e : ℕ) (h : e < length s) (f : get_or s e 0 ≡ 0x5F) where
-  inside : ends_line (get_or s e 0) ≡ false
-  inside = ap ends_line f
+-- it is the same flag behind a byte of the line
+flagged-behind : (on : Bool) (indent : List ℕ) (b : ℕ) (l : List ℕ) → ends_line b ≡ false → Flagged on indent (b ∷ l) → Flagged on indent l
+flagged-behind on indent b l e o n t = o (suc n) (line_taken b l e n t ∙ ap Some (omega arith))
 
-  -- a name that is empty
-  pub told-empty : starts_with (0x5F ∷ 0x3A ∷ []) (from s e) ≡ true → (n : ℕ) → not_line_ending_of (drop e s) ≡ Some n → Unnamed (joined_of indent n (drop e s))
-  told-empty k n t =
-      let c = followed s e h inside 0x5F 0x3A [] f (ap (starts_with (0x5F ∷ 0x3A ∷ [])) (sym (part-from s e)) ∙ k) in
-      let y = two s e h inside indent n 0x3A t c.0 c.1 refl in
-      let r = joined_of indent y.0 (drop (e + 2) s) in
-      subst⁻¹ Unnamed (y.2 ∙ ap (λ (b : ℕ). b ∷ 0x3A ∷ r) f) (unnamed-empty r)
+-- a place that is given where a test holds
+pub some-if : (P : ℕ → Type 0) (b : Bool) (k : ℕ) → (b ≡ true → P k) → IfSome (then_some b k) P
+some-if P true k f = f refl
+some-if P false k f = tt
 
-  module _ (on : Bool) (b : Blank indent) (o : Flagged on indent (drop e s)) where
-    -- a plain name
-    pub told-plain :
-        (v : Verdict) → Tells plain_run v (drop (e + 1) s) → starts_with (0x5F ∷ 0x60 ∷ []) (from s e) ≡ false → judged_of v on (length indent) ≡ true
-        → (n : ℕ) → not_line_ending_of (drop e s) ≡ Some n → Unnamed (joined_of indent n (drop e s))
-    told-plain v g k j n t =
-        let z = text-byte indent s e n h inside t in
-        let r = joined_of indent z.0 (drop (e + 1) s) in
-        let p = told-by plain_run v (drop (e + 1) s) indent on z.0 g b z.1 (o n t ∙ ap (λ (l : List ℕ). is_further (further_of indent l)) z.3) j in
-        let q = first_byte_lem indent s (e + 1) z.0 0x60 (λ (x : 0x60 ≡ 0x20). absurd (omega (arith, x))) z.1 (second s e h inside 0x5F 0x60 f (λ (x : 0x60 ≡ 0x20). absurd (omega (arith, x))) (ap (starts_with (0x5F ∷ 0x60 ∷ [])) (sym (part-from s e)) ∙ k)) in
-        subst⁻¹ Unnamed (z.2 ∙ ap (λ (c : ℕ). c ∷ r) f) (unnamed-plain r q p)
+-- Names behind `.. _`.
+module _ (indent l : List ℕ) where
+  -- an empty one
+  pub told-empty : 0 < length l → get_or l 0 0 ≡ 0x3A → OfText Unnamed indent (0x5F ∷ l)
+  told-empty h e n t =
+      let is = first-is l 0x3A h e in
+      let y = text-byte 0x5F l refl indent n t in
+      let z = text-byte 0x3A (drop 1 l) refl indent y.0 (ap (λ (r : List ℕ). not_line_ending_of r) (sym is) ∙ y.1) in
+      subst⁻¹ Unnamed (y.2 ∙ ap (λ (r : List ℕ). 0x5F ∷ joined_of indent y.0 r) is ∙ ap (λ (r : List ℕ). 0x5F ∷ r) z.2) (unnamed-empty (joined_of indent z.0 (drop 1 l)))
 
-    -- a name in backticks, where a plain one has no target either, or where it is closed
+  module _ (on : Bool) (b : Blank indent) (w : Walk) (told : Walked w l) (o : Flagged on indent l) where
+    -- a plain one
+    pub told-plain : (0 < length l → get_or l 0 0 ≡ 0x60 → ⊥) → judged_of w.near.plain on (length indent) ≡ true → OfText Unnamed indent (0x5F ∷ l)
+    told-plain h j n t =
+        let y = text-byte 0x5F l refl indent n t in
+        subst⁻¹ Unnamed y.2
+        (unnamed-plain (joined_of indent y.0 l) (first-not 0x60 l (λ x. omega (arith, x)) h indent y.0 y.1)
+        (told-text plain_run w.near.plain l indent on told.near.plain b o j y.0 y.1))
+
+    -- one in backticks, where a plain one has no target either, or where it is closed
     pub told-quoted :
-        (u v x : Verdict) → Tells plain_run u (drop (e + 1) s) → Tells quoted_run v (drop (e + 1 + 1) s) → Tells closed_run x (drop (e + 1 + 1) s)
-        → starts_with (0x5F ∷ 0x60 ∷ []) (from s e) ≡ true → judged_of v on (length indent) ≡ true
-        → (judged_of u on (length indent) ≡ true) ⊎ (judged_of x on (length indent) ≡ true)
-        → (n : ℕ) → not_line_ending_of (drop e s) ≡ Some n → Unnamed (joined_of indent n (drop e s))
-    told-quoted u v x gu gv gx k j d n t =
-        let c = followed s e h inside 0x5F 0x60 [] f (ap (starts_with (0x5F ∷ 0x60 ∷ [])) (sym (part-from s e)) ∙ k) in
-        let z = text-byte indent s e n h inside t in
-        let y = text-byte indent s (e + 1) z.0 c.0 (ap ends_line c.1) z.1 in
-        let r = joined_of indent y.0 (drop (e + 1 + 1) s) in
-        let w : joined_of indent z.0 (drop (e + 1) s) ≡ 0x60 ∷ r = y.2 ∙ ap (λ (a : ℕ). a ∷ r) c.1 in
-        let on1 : on ≡ is_further (further_of indent (drop z.0 (drop (e + 1) s))) = o n t ∙ ap (λ (l : List ℕ). is_further (further_of indent l)) z.3 in
-        let on2 : on ≡ is_further (further_of indent (drop y.0 (drop (e + 1 + 1) s))) = on1 ∙ ap (λ (l : List ℕ). is_further (further_of indent l)) y.3 in
-        let q = told-by quoted_run v (drop (e + 1 + 1) s) indent on y.0 gv b y.1 on2 j in
-        subst⁻¹ Unnamed (z.2 ∙ ap (λ (a : ℕ). a ∷ joined_of indent z.0 (drop (e + 1) s)) f ∙ ap (λ (l : List ℕ). 0x5F ∷ l) w)
-        (unnamed-quoted r q (⊎_elim
-        (λ i. inl (sym (ap plain_run w) ∙ told-by plain_run u (drop (e + 1) s) indent on z.0 gu b z.1 on1 i))
-        (λ i. inr (told-by closed_run x (drop (e + 1 + 1) s) indent on y.0 gx b y.1 on2 i))
+        0 < length l → get_or l 0 0 ≡ 0x60 → judged_of w.far.quoted on (length indent) ≡ true
+        → (judged_of w.near.plain on (length indent) ≡ true) ⊎ (judged_of w.far.closed on (length indent) ≡ true) → OfText Unnamed indent (0x5F ∷ l)
+    told-quoted h e j d n t =
+        let is = first-is l 0x60 h e in
+        let y = text-byte 0x5F l refl indent n t in
+        let z = text-byte 0x60 (drop 1 l) refl indent y.0 (ap (λ (r : List ℕ). not_line_ending_of r) (sym is) ∙ y.1) in
+        let f = flagged-behind on indent 0x60 (drop 1 l) refl (subst (Flagged on indent) is o) in
+        let v = ap (λ (r : List ℕ). joined_of indent y.0 r) is ∙ z.2 in
+        subst⁻¹ Unnamed (y.2 ∙ ap (λ (r : List ℕ). 0x5F ∷ r) v)
+        (unnamed-quoted (joined_of indent z.0 (drop 1 l)) (told-text quoted_run w.far.quoted (drop 1 l) indent on told.far.quoted b f j z.0 z.1)
+        (⊎_elim
+        (λ i. inl (sym (ap plain_run v) ∙ told-text plain_run w.near.plain l indent on told.near.plain b o i y.0 y.1))
+        (λ i. inr (told-text closed_run w.far.closed (drop 1 l) indent on told.far.closed b f i z.0 z.1))
         d))
 
--- The header.
-
--- one that begins with a stroke
-strokes-headed : (s : List ℕ) → Headed s → get_or s 0 0 ≡ 0x5F → starts_with (0x5F ∷ 0x5F ∷ 0x20 ∷ []) s ≡ true
-strokes-headed s (inl i) e = i
-strokes-headed s (inr i) e = absurd (omega (arith, starts-at (0x2E ∷ 0x2E ∷ 0x20 ∷ 0x5F ∷ []) s 0 i (omega arith), e))
-
--- one that does not
-dots-headed : (s : List ℕ) → Headed s → (get_or s 0 0 ≡ 0x5F → ⊥) → starts_with (0x2E ∷ 0x2E ∷ 0x20 ∷ 0x5F ∷ []) s ≡ true
-dots-headed s (inl i) e = absurd (e (starts-at (0x5F ∷ 0x5F ∷ 0x20 ∷ []) s 0 i (omega arith)))
-dots-headed s (inr i) e = i
-
--- what begins with them begins with the first three
-dots-only : (s : List ℕ) → starts_with (0x2E ∷ 0x2E ∷ 0x20 ∷ 0x5F ∷ []) s ≡ true → starts_with (0x2E ∷ 0x2E ∷ 0x20 ∷ []) s ≡ true
-dots-only s i = (and_both _ _ (sym (starts-append (0x2E ∷ 0x2E ∷ 0x20 ∷ []) (0x5F ∷ []) s) ∙ i)).0
-
--- Blanks stand from place k on up to a header of three bytes before place e.
-module _ (s : List ℕ) (k e : ℕ) (p : (e < length s) × (k + 3 ≤ e) × Indented k (e - 3) s) (d : Headed (drop (e - 3) s)) where
-  behind : e - 3 + 3 ≡ e
-  behind = omega (arith, p.1)
-
-  -- these blanks
+-- Blocks behind the blanks from place k on.
+module _ (before l : List ℕ) (k : ℕ) (blank : Blank (drop k before)) (w : Walk) (told : Walked w l) where
+  -- these, as the code has them
   abbrev indent : List ℕ
-  indent = take (e - 3 - k) (drop k s)
+  indent = from before k
 
-  pub free-blank : Blank indent
-  free-blank = blank-indent s k (e - 3) p.2 (omega (arith, p.0))
+  pub indent-blank : Blank indent
+  indent-blank = subst⁻¹ Blank (part-from before k) blank
 
-  front : get_or (drop (e - 3) s) 0 0 ≡ get_or s (e - 3) 0
-  front = let z : e - 3 + 0 ≡ e - 3 = omega arith in get_or-drop (e - 3) s 0 0 ∙ ap (λ (j : ℕ). get_or s j 0) z
+  -- the line is refused
+  pub free-refused : w.next ≡ None → (named : Bool) → NoTarget (drop k before ++ (header_of named ++ l))
+  free-refused e true = dots-refused (drop k before) (0x5F ∷ l) blank (line_refused 0x5F l refl (subst (λ (x : Option ℕ). Lined x l) e told.next))
+  free-refused e false = strokes-refused (drop k before) l blank (subst (λ (x : Option ℕ). Lined x l) e told.next)
 
-  module _ (q : get_or s (e - 3) 0 ≡ 0x5F → ⊥) where
-    headed : starts_with (0x2E ∷ 0x2E ∷ 0x20 ∷ 0x5F ∷ []) (drop (e - 3) s) ≡ true
-    headed = dots-headed (drop (e - 3) s) d (λ i. q (sym front ∙ i))
-
-    -- a stroke stands behind the dots
-    pub free-stroke : get_or s e 0 ≡ 0x5F
-    free-stroke =
-        ap (λ (j : ℕ). get_or s j 0) (sym behind) ∙ sym (get_or-drop (e - 3) s 3 0)
-        ∙ starts-at (0x2E ∷ 0x2E ∷ 0x20 ∷ 0x5F ∷ []) (drop (e - 3) s) 3 headed (omega arith)
-
-  module _ (w : Walk) (here : Walked w e s) where
-    -- the line is refused
-    pub free-broken : w.broken ≡ true → NoTarget (drop k s)
-    free-broken i = no-target-refused s k (e - 3) p.2 d (ap (λ (j : ℕ). not_line_ending_of (drop j s)) behind ∙ here.6 i)
+  module _ (next : ℕ) (e : w.next ≡ Some next) where
+    line : Lined (Some next) l
+    line = subst (λ (x : Option ℕ). Lined x l) e told.next
 
     -- whether a further line follows
-    pub free-flag : (on : Bool) → on ≡ starts_with (indent ++ three) (drop w.next s) → Flagged on indent (drop e s)
-    free-flag on o n t = o ∙ sym (here.5 indent n free-blank t)
+    pub flagged : (on : Bool) → on ≡ starts_with (indent ++ three) (from l (length l - next)) → Flagged on indent l
+    flagged on o n t = o ∙ ap (starts_with (indent ++ three)) (part-from l (length l - next)) ∙ line.2 indent indent-blank n t
 
-    module _ (i : w.broken ≡ false) where
-      -- an anonymous target
-      pub free-dead :
-          (on : Bool) → on ≡ starts_with (indent ++ three) (drop w.next s) → get_or s (e - 3) 0 ≡ 0x5F
-          → judged_of w.near.target on (length indent) ≡ true → NoTarget (drop k s)
-      free-dead on o q j =
-          let t = here.7 i in
-          let g = told-by is_dead w.near.target (drop e s) indent on t.0 here.0.5 free-blank t.1 (free-flag on o t.0 t.1) j in
-          no-target-dead s k (e - 3) t.0 p.2 (strokes-headed (drop (e - 3) s) d (front ∙ q))
-          (ap (λ (j : ℕ). not_line_ending_of (drop j s)) behind ∙ t.1)
-          (ap (λ (j : ℕ). is_dead (joined_of indent t.0 (drop j s))) behind ∙ g)
+    -- a name with no target
+    pub free-unnamed : OfText Unnamed indent (0x5F ∷ l) → NoTarget (drop k before ++ (header_of true ++ l))
+    free-unnamed u =
+        let t = line_taken 0x5F l refl line.0.0 line.0.1 in
+        subst (λ (i : List ℕ). NoTarget (i ++ (header_of true ++ l))) (part-from before k) (dots-unnamed indent (0x5F ∷ l) indent-blank _ t (u _ t))
 
-      -- a name with none
-      pub free-unnamed :
-          (get_or s (e - 3) 0 ≡ 0x5F → ⊥) → ((n : ℕ) → not_line_ending_of (drop e s) ≡ Some n → Unnamed (joined_of indent n (drop e s))) → NoTarget (drop k s)
-      free-unnamed q g =
-          let t = here.7 i in
-          no-target-unnamed s k (e - 3) t.0 p.2 (dots-only (drop (e - 3) s) (headed q))
-          (ap (λ (j : ℕ). not_line_ending_of (drop j s)) behind ∙ t.1)
-          (subst⁻¹ (λ (j : ℕ). Unnamed (joined_of indent t.0 (drop j s))) behind (g t.0 t.1))
+    -- an anonymous target
+    pub free-dead : (on : Bool) → Flagged on indent l → judged_of w.near.target on (length indent) ≡ true → NoTarget (drop k before ++ (header_of false ++ l))
+    free-dead on o j =
+        subst (λ (i : List ℕ). NoTarget (i ++ (header_of false ++ l))) (part-from before k)
+        (strokes-dead indent l indent-blank line.0.0 line.0.1 (told-text is_dead w.near.target l indent on told.near.target indent-blank o j line.0.0 line.0.1))
+
+-- The end of a text that ends with a header.
+module _ (s : List ℕ) where
+  pub ends-three :
+      (a b c : ℕ) → 3 ≤ length s → get_or s (length s - 3) 0 ≡ a → get_or s (length s - 2) 0 ≡ b → get_or s (length s - 1) 0 ≡ c
+      → s ≡ take (length s - 3) s ++ a ∷ b ∷ c ∷ []
+  ends-three a b c h e f g =
+      let m = length s - 3 in
+      let y : m + 1 ≡ length s - 2 = omega (arith, h) in
+      let z : m + 2 ≡ length s - 1 = omega (arith, h) in
+      sym (take-append-drop m s)
+      ∙ ap (λ (l : List ℕ). take m s ++ l)
+      (drop-two s m (omega (arith, h))
+      ∙ ap (λ (l : List ℕ). get_or s m 0 ∷ get_or s (m + 1) 0 ∷ l) (drop-last s (m + 2) (omega (arith, h)) (omega (arith, h)))
+      ∙ rw (y, z, e, f, g))
+
+  pub ends-four :
+      (a b c d : ℕ) → 4 ≤ length s → get_or s (length s - 4) 0 ≡ a → get_or s (length s - 3) 0 ≡ b → get_or s (length s - 2) 0 ≡ c → get_or s (length s - 1) 0 ≡ d
+      → s ≡ take (length s - 4) s ++ a ∷ b ∷ c ∷ d ∷ []
+  ends-four a b c d h e f g i =
+      let m = length s - 4 in
+      let x : m + 1 ≡ length s - 3 = omega (arith, h) in
+      let y : m + 2 ≡ length s - 2 = omega (arith, h) in
+      let z : m + 2 + 1 ≡ length s - 1 = omega (arith, h) in
+      sym (take-append-drop m s)
+      ∙ ap (λ (l : List ℕ). take m s ++ l)
+      (drop-two s m (omega (arith, h))
+      ∙ ap (λ (l : List ℕ). get_or s m 0 ∷ get_or s (m + 1) 0 ∷ l)
+      (drop-two s (m + 2) (omega (arith, h)) ∙ ap (λ (l : List ℕ). get_or s (m + 2) 0 ∷ get_or s (m + 2 + 1) 0 ∷ l) (drop-end s (m + 2 + 2) (omega (arith, h))))
+      ∙ rw (x, z, y, e, f, g, i))
+
+-- a place before the header is one of the text with it
+pub free-front :
+    (before front rest header : List ℕ) (r : Option ℕ) → front ≡ before ++ header → 0 < length header
+    → IfSome r (λ k. (k ≤ length before) × NoTarget (drop k before ++ (header ++ rest))) → IfSome r (λ k. (k < length front) × NoTarget (drop k (front ++ rest)))
+free-front before front rest header r e h f =
+    IfSome_then r f (λ k p. (
+      omega (arith, p.0, h, ap length e, length-append before header),
+      subst⁻¹ NoTarget (ap (λ (l : List ℕ). drop k (l ++ rest)) e ∙ ap (drop k) (append_assoc before header rest) ∙ drop-append-le k before (header ++ rest) p.0) p.1,
+    ))

@@ -1,29 +1,22 @@
 -- What is kept at a backslash, by what stands behind it: the runs over names and over destinations go on behind the byte that it takes along, end there,
 -- or are wrong; and no label begins with it.
 -- Assumes nothing.
-use Prim.Native.Nat.{ℕ, ◌+◌, ◌<◌, ◌≤◌}
-use native.Mathlib.Omega.{arith}
-use mathlib.Core.Path.{◌≡◌, refl, sym, ap, subst, ◌∙◌}
-use mathlib.Core.List.{List}
-use mathlib.Core.Bool.{Bool, true, false, true≢false}
-use mathlib.Core.Logic.{⊎_elim}
-use lib.Dec.{eqb}
-use lib.ListN.{length, get_or, drop}
-use borrow.Author.Tests.{eqb-true}
+use Rattle.std.proofs.Common.{◌≡◌, ℕ, ◌<◌, List, [], ◌∷◌, Bool, true, false, ⊎_elim, length, get_or, drop, subst, refl, sym, ap, ◌∙◌, eqb, eqb-true, arith}
+use mathlib.Core.Path.{subst⁻¹}
+use Rattle.std.proofs.lemmas.Bool.{true≢false, false_from_ne_true}
 use Rattle.rst_bytes.specs.Escaped.{is_escapable}
 use Rattle.rst_bytes.specs.Word.{is_ascii_word}
-use Rattle.rst_bytes.proofs.Lists.{drop-next}
 use Rattle.rst_bytes.proofs.TestLaws.{or_cases}
 use Rattle.restructured_text.specs.Transform.{is_destination_escapable}
-use Rattle.targetless.specs.declared.Verdict.{Verdict}
-use Rattle.targetless.specs.declared.Size.{Size}
-use Rattle.targetless.specs.declared.State.{State}
-use Rattle.targetless.specs.Verdict.{ends_line, Tells, escape_of}
-use Rattle.targetless.specs.Runs.{escapable_of, word_labelled, is_dead, destination_run, label_run, plain_run, quoted_run, closed_run, Sized, StateTells, wrong_of, ended_of, paired_of}
-use Rattle.targetless.proofs.RunLaws.{either, word-other}
-use Rattle.targetless.proofs.StateLaws.{target-other, escape-destination, escape-label, escape-plain, escape-quoted, escape-closed}
-use Rattle.targetless.proofs.SizeLaws.{more, none, sized-last, sized-line, sized-pair, sized-wrong}
-use Rattle.targetless.proofs.LeafLaws.{verdict-last, verdict-line, verdict-pair, verdict-wrong}
+use Rattle.targetless.specs.declared.verdict.Verdict.{Verdict}
+use Rattle.targetless.specs.declared.state.State.{State}
+use Rattle.targetless.specs.Verdict.{ends_line, everything, lone_of, Tells}
+use Rattle.targetless.specs.Runs.{escapable_of, is_dead, destination_run, label_stop, plain_stop, quoted_stop, closed_stop, more, StateTells, wrong_of, ended_of, paired_of}
+use Rattle.targetless.proofs.TextLaws.{first-is}
+use Rattle.targetless.proofs.VerdictLaws.{escape-last, escape-line, escape-pair, escape-wrong}
+use Rattle.targetless.proofs.RunLaws.{word-other}
+use Rattle.targetless.proofs.StateLaws.{target-other}
+use Rattle.targetless.proofs.SizeLaws.{sized-last, sized-line, sized-pair, sized-wrong}
 
 -- what may be escaped in a destination may be in a name
 destination-name : (c : ℕ) → is_destination_escapable c ≡ true → is_escapable c ≡ true
@@ -35,69 +28,99 @@ destination-name c e =
     at n w f = ap is_escapable (eqb-true c n f) ∙ w
 
 -- what may not be in a name may not be in a destination
-pub name-destination : (c : ℕ) → is_escapable c ≡ false → is_destination_escapable c ≡ false
-name-destination c e = ⊎_elim (λ f. absurd (true≢false (sym (destination-name c f) ∙ e))) (λ f. f) (either (is_destination_escapable c))
+name-destination : (c : ℕ) → is_escapable c ≡ false → is_destination_escapable c ≡ false
+name-destination c e = false_from_ne_true (is_destination_escapable c) (λ f. true≢false (sym (destination-name c f) ∙ e))
 
-module _ (s : List ℕ) (i : ℕ) (h : i < length s) (f : get_or s i 0 ≡ 0x5C) where
-  -- no label begins there
-  slash-dead : (v : Verdict) → Tells destination_run v (drop i s) → Tells is_dead v (drop i s)
-  unfolding is_ascii_word
-  slash-dead v t =
-      target-other s i h (ap ends_line f) (λ g. omega (arith, f, g))
-      (ap word_labelled (drop-next s i h) ∙ word-other (get_or s i 0) (drop (i + 1) s) (omega (arith, f)) (ap is_ascii_word f)) v t
+-- no label begins there
+slash-dead : (v : Verdict) (l : List ℕ) → Tells destination_run v (0x5C ∷ l) → Tells is_dead v (0x5C ∷ l)
+unfolding is_ascii_word
+slash-dead v l t = target-other l v 0x5C refl (λ e. omega (arith, e)) (word-other 0x5C l (omega arith) refl) t
 
-  module _ (near far : State) (p : StateTells near (drop (i + 1) s)) (q : StateTells far (drop (i + 2) s)) where
-    -- all verdicts, by those of the five runs
-    slash-tells :
-        (a b c d e : Verdict) (z : Size) → escape_of (escapable_of false) true near.destination far.destination (drop i s) ≡ a
-        → escape_of (escapable_of false) true near.label far.label (drop i s) ≡ b → escape_of (escapable_of true) true near.plain far.plain (drop i s) ≡ c
-        → escape_of (escapable_of true) true near.quoted far.quoted (drop i s) ≡ d → escape_of (escapable_of true) false near.closed far.closed (drop i s) ≡ e
-        → Sized z (drop i s) → StateTells (record { destination = a; label = b; plain = c; quoted = d; closed = e; target = a; size = z }) (drop i s)
-    slash-tells a b c d e z ea eb ec ed ee t =
-        let x = subst (λ (v : Verdict). Tells destination_run v (drop i s)) ea (escape-destination s i h f near.destination far.destination p.0 q.0) in (
-          x,
-          subst (λ (v : Verdict). Tells label_run v (drop i s)) eb (escape-label s i h f near.label far.label p.1 q.1),
-          subst (λ (v : Verdict). Tells plain_run v (drop i s)) ec (escape-plain s i h f near.plain far.plain p.2 q.2),
-          subst (λ (v : Verdict). Tells quoted_run v (drop i s)) ed (escape-quoted s i h f near.quoted far.quoted p.3 q.3),
-          subst (λ (v : Verdict). Tells closed_run v (drop i s)) ee (escape-closed s i h f near.closed far.closed p.4 q.4),
-          slash-dead a x,
-          t,
-        )
+-- before a line's end
+ended-tells : (near : State) (c : ℕ) (l : List ℕ) → ends_line c ≡ true → StateTells near (c ∷ l) → StateTells (ended_of near (more near.size 1)) (0x5C ∷ c ∷ l)
+unfolding is_escapable is_destination_escapable
+ended-tells near c l e p =
+    let d = escape-line 10 (escapable_of false) (λ t. false) true false refl (λ x. omega (arith, x)) near.destination c l e p.destination in
+    record {
+      destination = d;
+      label = escape-line 0x60 (escapable_of false) label_stop true true refl (λ x. omega (arith, x)) near.label c l e p.label;
+      plain = escape-line 0x3A (escapable_of true) plain_stop true true refl (λ x. omega (arith, x)) near.plain c l e p.plain;
+      quoted = escape-line 0x60 (escapable_of true) quoted_stop true true refl (λ x. omega (arith, x)) near.quoted c l e p.quoted;
+      closed = escape-line 0x60 (escapable_of true) closed_stop false false refl (λ x. omega (arith, x)) near.closed c l e p.closed;
+      target = slash-dead (lone_of near.destination true) (c ∷ l) d;
+      size = sized-line near.size c l e p.size;
+    }
 
-    -- the last byte
-    pub slash-last : length s ≤ i + 1 → StateTells wrong_of (drop i s)
-    slash-last l =
-        slash-tells _ _ _ _ _ none
-        (verdict-last s i (escapable_of false) true near.destination far.destination h l) (verdict-last s i (escapable_of false) true near.label far.label h l) (verdict-last s i (escapable_of true) true near.plain far.plain h l) (verdict-last s i (escapable_of true) true near.quoted far.quoted h l) (verdict-last s i (escapable_of true) false near.closed far.closed h l)
-        (sized-last s i h none f l)
+module _ (c : ℕ) (l : List ℕ) (e : ends_line c ≡ false) where
+  -- before a byte that it takes along in names, and in destinations too
+  paired-tells : (far : State) → is_escapable c ≡ true → StateTells far l → StateTells (paired_of far (is_destination_escapable c) (more far.size 2)) (0x5C ∷ c ∷ l)
+  unfolding is_escapable is_destination_escapable
+  paired-tells far g p = go (is_destination_escapable c) refl
+    where
+      go : (x : Bool) → is_destination_escapable c ≡ x → StateTells (paired_of far x (more far.size 2)) (0x5C ∷ c ∷ l)
+      go true k =
+          let d = escape-pair 10 (escapable_of false) (λ t. false) true false refl (λ x. omega (arith, x)) c l e far.destination k p.destination in
+          record {
+            destination = d;
+            label = escape-pair 0x60 (escapable_of false) label_stop true true refl (λ x. omega (arith, x)) c l e far.label k p.label;
+            plain = escape-pair 0x3A (escapable_of true) plain_stop true true refl (λ x. omega (arith, x)) c l e far.plain g p.plain;
+            quoted = escape-pair 0x60 (escapable_of true) quoted_stop true true refl (λ x. omega (arith, x)) c l e far.quoted g p.quoted;
+            closed = escape-pair 0x60 (escapable_of true) closed_stop false false refl (λ x. omega (arith, x)) c l e far.closed g p.closed;
+            target = slash-dead far.destination (c ∷ l) d;
+            size = sized-pair far.size c l e g p.size;
+          }
+      go false k =
+          let d = escape-wrong 10 (escapable_of false) (λ t. false) true false refl (λ x. omega (arith, x)) c l e k in
+          record {
+            destination = d;
+            label = escape-wrong 0x60 (escapable_of false) label_stop true true refl (λ x. omega (arith, x)) c l e k;
+            plain = escape-pair 0x3A (escapable_of true) plain_stop true true refl (λ x. omega (arith, x)) c l e far.plain g p.plain;
+            quoted = escape-pair 0x60 (escapable_of true) quoted_stop true true refl (λ x. omega (arith, x)) c l e far.quoted g p.quoted;
+            closed = escape-pair 0x60 (escapable_of true) closed_stop false false refl (λ x. omega (arith, x)) c l e far.closed g p.closed;
+            target = slash-dead everything (c ∷ l) d;
+            size = sized-pair far.size c l e g p.size;
+          }
 
-    module _ (l : i + 1 < length s) where
-      -- before a line's end
-      pub slash-line : ends_line (get_or s (i + 1) 0) ≡ true → StateTells (ended_of near (more near.size 1)) (drop i s)
-      slash-line e =
-          slash-tells _ _ _ _ _ (more near.size 1)
-          (verdict-line s i (escapable_of false) true near.destination far.destination l e) (verdict-line s i (escapable_of false) true near.label far.label l e) (verdict-line s i (escapable_of true) true near.plain far.plain l e) (verdict-line s i (escapable_of true) true near.quoted far.quoted l e) (verdict-line s i (escapable_of true) false near.closed far.closed l e)
-          (sized-line s i h near.size f l e p.6)
+-- What stands behind it, by its first byte.
+module _ (l : List ℕ) (h : 0 < length l) where
+  behind : l ≡ get_or l 0 0 ∷ drop 1 l
+  behind = first-is l (get_or l 0 0) h refl
 
-      module _ (e : ends_line (get_or s (i + 1) 0) ≡ false) where
-        -- before a byte that it takes along
-        pub slash-pair : is_escapable (get_or s (i + 1) 0) ≡ true → StateTells (paired_of far (is_destination_escapable (get_or s (i + 1) 0)) (more far.size 2)) (drop i s)
-        slash-pair g = go (is_destination_escapable (get_or s (i + 1) 0)) refl
-          where
-            go : (x : Bool) → is_destination_escapable (get_or s (i + 1) 0) ≡ x → StateTells (paired_of far x (more far.size 2)) (drop i s)
-            go true k =
-                slash-tells _ _ _ _ _ (more far.size 2)
-                (verdict-pair s i (escapable_of false) true near.destination far.destination l e k) (verdict-pair s i (escapable_of false) true near.label far.label l e k) (verdict-pair s i (escapable_of true) true near.plain far.plain l e g) (verdict-pair s i (escapable_of true) true near.quoted far.quoted l e g) (verdict-pair s i (escapable_of true) false near.closed far.closed l e g)
-                (sized-pair s i h far.size f l e g q.6)
-            go false k =
-                slash-tells _ _ _ _ _ (more far.size 2)
-                (verdict-wrong s i (escapable_of false) true near.destination far.destination l e k) (verdict-wrong s i (escapable_of false) true near.label far.label l e k) (verdict-pair s i (escapable_of true) true near.plain far.plain l e g) (verdict-pair s i (escapable_of true) true near.quoted far.quoted l e g) (verdict-pair s i (escapable_of true) false near.closed far.closed l e g)
-                (sized-pair s i h far.size f l e g q.6)
+  pub state-ended : (near : State) → ends_line (get_or l 0 0) ≡ true → StateTells near l → StateTells (ended_of near (more near.size 1)) (0x5C ∷ l)
+  state-ended near e p =
+      subst⁻¹ (λ (r : List ℕ). StateTells (ended_of near (more near.size 1)) (0x5C ∷ r)) behind (ended-tells near (get_or l 0 0) (drop 1 l) e (subst (StateTells near) behind p))
 
-        -- before another one
-        pub slash-wrong : is_escapable (get_or s (i + 1) 0) ≡ false → StateTells wrong_of (drop i s)
-        slash-wrong g =
-            let k = name-destination (get_or s (i + 1) 0) g in
-            slash-tells _ _ _ _ _ none
-            (verdict-wrong s i (escapable_of false) true near.destination far.destination l e k) (verdict-wrong s i (escapable_of false) true near.label far.label l e k) (verdict-wrong s i (escapable_of true) true near.plain far.plain l e g) (verdict-wrong s i (escapable_of true) true near.quoted far.quoted l e g) (verdict-wrong s i (escapable_of true) false near.closed far.closed l e g)
-            (sized-wrong s i h none f l e g)
+  pub state-paired :
+      (far : State) → ends_line (get_or l 0 0) ≡ false → is_escapable (get_or l 0 0) ≡ true → StateTells far (drop 1 l)
+      → StateTells (paired_of far (is_destination_escapable (get_or l 0 0)) (more far.size 2)) (0x5C ∷ l)
+  state-paired far e g p =
+      subst⁻¹ (λ (r : List ℕ). StateTells (paired_of far (is_destination_escapable (get_or l 0 0)) (more far.size 2)) (0x5C ∷ r)) behind (paired-tells (get_or l 0 0) (drop 1 l) e far g p)
+
+-- as the last byte, or before another one
+pub state-wrong : (l : List ℕ) → (0 < length l → (ends_line (get_or l 0 0) ≡ false) × (is_escapable (get_or l 0 0) ≡ false)) → StateTells wrong_of (0x5C ∷ l)
+unfolding is_escapable is_destination_escapable
+state-wrong [] h =
+    let d = escape-last 10 (escapable_of false) (λ t. false) true false refl (λ x. omega (arith, x)) in
+    record {
+      destination = d;
+      label = escape-last 0x60 (escapable_of false) label_stop true true refl (λ x. omega (arith, x));
+      plain = escape-last 0x3A (escapable_of true) plain_stop true true refl (λ x. omega (arith, x));
+      quoted = escape-last 0x60 (escapable_of true) quoted_stop true true refl (λ x. omega (arith, x));
+      closed = escape-last 0x60 (escapable_of true) closed_stop false false refl (λ x. omega (arith, x));
+      target = slash-dead everything [] d;
+      size = sized-last;
+    }
+state-wrong (c ∷ l) h =
+    let w = h (omega arith) in
+    let e = w.0 in
+    let k = name-destination c w.1 in
+    let d = escape-wrong 10 (escapable_of false) (λ t. false) true false refl (λ x. omega (arith, x)) c l e k in
+    record {
+      destination = d;
+      label = escape-wrong 0x60 (escapable_of false) label_stop true true refl (λ x. omega (arith, x)) c l e k;
+      plain = escape-wrong 0x3A (escapable_of true) plain_stop true true refl (λ x. omega (arith, x)) c l e w.1;
+      quoted = escape-wrong 0x60 (escapable_of true) quoted_stop true true refl (λ x. omega (arith, x)) c l e w.1;
+      closed = escape-wrong 0x60 (escapable_of true) closed_stop false false refl (λ x. omega (arith, x)) c l e w.1;
+      target = slash-dead everything (c ∷ l) d;
+      size = sized-wrong c l e w.1;
+    }

@@ -1,6 +1,7 @@
--- The laws of Verdict, Runs and Walk, which the proofs of the functions need; ClearLaws is for `iterator` too.
+-- The laws of Verdict, Runs and Walk, which the proofs of the functions need; ClearLaws is for `iterator`.
 pub mod BitLaws
 pub mod TextLaws
+pub mod BlankLaws
 pub mod VerdictLaws
 pub mod RunLaws
 pub mod SizeLaws
@@ -8,7 +9,6 @@ pub mod NameLaws
 pub mod WordLaws
 pub mod TargetLaws
 pub mod ClearLaws
-pub mod LeafLaws
 pub mod LineTargetLaws
 pub mod StateLaws
 pub mod EscapeLaws

@@ -12,6 +12,7 @@ use lib.Dec.{eqb}
 use lib.ListN.{drop}
 use lib.Seq.{drop-nil, drop-drop}
 use borrow.Author.Tests.{eq-eqb, ne_eqb, eqb-true}
+use Rattle.std.proofs.lemmas.Bool.{cases_Bool}
 use Rattle.rst_bytes.specs.Escaped.{is_escapable, is_stop, taking, escaped_of}
 use Rattle.rst_bytes.specs.Tag.{starts_with}
 use Rattle.rst_bytes.proofs.EscapedLaws.{refused-taken, taken_is, taken-from, taken_back, first-stop, first-other}
@@ -23,7 +24,7 @@ use Rattle.restructured_text.proofs.TargetLaws.{plain-none, plain-named, name-pl
 use Rattle.targetless.specs.Verdict.{run}
 use Rattle.targetless.specs.Runs.{is_dead, Unnamed, escapable_of, plain_run, plain_stop, quoted_run, quoted_stop, closed_run, closed_stop}
 use Rattle.targetless.proofs.VerdictLaws.{run-plain, run-stop, run_alone, run-pair, run-wrong}
-use Rattle.targetless.proofs.RunLaws.{either, stop-one, taking-alone, taking-byte, taking-here, taking-pair, taking-wrong, starts_is, dead-refused}
+use Rattle.targetless.proofs.RunLaws.{stop-one, taking-alone, taking-byte, taking-here, taking-pair, taking-wrong, starts_is, dead-refused}
 
 -- what a run finds where it ends
 abbrev at_or : (List ℕ → Bool) → Bool → List ℕ → Bool
@@ -48,8 +49,8 @@ module _ (p : ℕ) (at : List ℕ → Bool) (wrong end : Bool) where
       run-plain p (escapable_of true) at wrong end b [] i j
       ∙ sym (ap (at_or at end) (drop-nil (n - 1)))
       ∙ ap (λ (m : ℕ). at_or at end (drop m (b ∷ []))) z)
-      (either (eqb b p)))
-      (either (eqb b 0x5C))
+      (cases_Bool (eqb b p)))
+      (cases_Bool (eqb b 0x5C))
   run-taken (b ∷ c ∷ t) a n e =
       ⊎_elim
       (λ i. ⊎_elim
@@ -61,7 +62,7 @@ module _ (p : ℕ) (at : List ℕ → Bool) (wrong end : Bool) where
       ∙ run-taken t (a + 2) (n - 2) (sym (taking-pair p a b c t i j) ∙ e ∙ ap Some y)
       ∙ ap (λ (m : ℕ). at_or at end (drop m (b ∷ c ∷ t))) z)
       (λ j. absurd (refused-taken (a + n) (sym (taking-wrong p a b c t i j) ∙ e)))
-      (either (is_escapable c)))
+      (cases_Bool (is_escapable c)))
       (λ i. ⊎_elim
       (λ j.
       let z : 0 ≡ n = omega (arith, taken_is a (a + n) (sym (taking-here p a b (c ∷ t) i j) ∙ e)) in
@@ -73,8 +74,8 @@ module _ (p : ℕ) (at : List ℕ → Bool) (wrong end : Bool) where
       run-plain p (escapable_of true) at wrong end b (c ∷ t) i j
       ∙ run-taken (c ∷ t) (a + 1) (n - 1) (sym (taking-byte p a b (c ∷ t) i j) ∙ e ∙ ap Some y)
       ∙ ap (λ (m : ℕ). at_or at end (drop m (b ∷ c ∷ t))) z)
-      (either (eqb b p)))
-      (either (eqb b 0x5C))
+      (cases_Bool (eqb b p)))
+      (cases_Bool (eqb b 0x5C))
 
   -- where it refuses
   run-misses : (t : List ℕ) (a : ℕ) → taking p p false a t ≡ None → run p (escapable_of true) at wrong end t ≡ wrong
@@ -86,19 +87,19 @@ module _ (p : ℕ) (at : List ℕ → Bool) (wrong end : Bool) where
       (λ i. ⊎_elim
       (λ j. absurd (refused-taken a (sym e ∙ taking-here p a b [] i j)))
       (λ j. absurd (refused-taken (a + 1) (sym e ∙ taking-byte p a b [] i j)))
-      (either (eqb b p)))
-      (either (eqb b 0x5C))
+      (cases_Bool (eqb b p)))
+      (cases_Bool (eqb b 0x5C))
   run-misses (b ∷ c ∷ t) a e =
       ⊎_elim
       (λ i. ⊎_elim
       (λ j. run-pair p (escapable_of true) at wrong end b c t i j ∙ run-misses t (a + 2) (sym (taking-pair p a b c t i j) ∙ e))
       (λ j. run-wrong p (escapable_of true) at wrong end b c t i j)
-      (either (is_escapable c)))
+      (cases_Bool (is_escapable c)))
       (λ i. ⊎_elim
       (λ j. absurd (refused-taken a (sym e ∙ taking-here p a b (c ∷ t) i j)))
       (λ j. run-plain p (escapable_of true) at wrong end b (c ∷ t) i j ∙ run-misses (c ∷ t) (a + 1) (sym (taking-byte p a b (c ∷ t) i j) ∙ e))
-      (either (eqb b p)))
-      (either (eqb b 0x5C))
+      (cases_Bool (eqb b p)))
+      (cases_Bool (eqb b 0x5C))
 
   -- the same of `escaped`
   run-escaped : (t : List ℕ) (n : ℕ) → escaped_of p p t ≡ Some n → run p (escapable_of true) at wrong end t ≡ at_or at end (drop n t)
@@ -143,7 +144,7 @@ module _ (r : List ℕ) (q : delimited_of (0x5F ∷ 0x60 ∷ []) 0x60 0x60 (0x60
           ⊎_elim
           (λ g. closed n e g)
           (λ g. nameless (delimited-unclosed (0x5F ∷ []) 0x3A 0x3A (0x3A ∷ 0x20 ∷ []) (0x5F ∷ r) r begins refl n _ e refl g) label size)
-          (either (starts_with (0x3A ∷ 0x20 ∷ []) (drop n r)))
+          (cases_Bool (starts_with (0x3A ∷ 0x20 ∷ []) (drop n r)))
       go None e = plain-refused e label size
 
 pub unnamed-plain : (r : List ℕ) → starts_with (0x60 ∷ []) r ≡ false → plain_run r ≡ true → Unnamed (0x5F ∷ r)
@@ -184,7 +185,7 @@ module _ (r : List ℕ) (f : quoted_run r ≡ true) where
           let y : b ≡ 0x60 = eqb-true b 0x60 (sym (stop-one 0x60 b) ∙ j) in
           sym (run-stop 0x60 (escapable_of true) closed_stop false false b t (ne_eqb b 0x5C (λ z. omega (arith, y, z))) (eq-eqb b 0x60 y)) ∙ h)
           (λ j. absurd (false≢true (sym (run-misses 0x60 closed_stop false false (b ∷ t) 0 (sym (first-other 0x60 0x60 (b ∷ t) (omega arith) j) ∙ i)) ∙ h)))
-          (either (is_stop 0x60 0x60 b))
+          (cases_Bool (is_stop 0x60 0x60 b))
 
   module _ (n : ℕ) (e : escaped_of 0x60 0x60 r ≡ Some n) where
     quoted-closed : starts_with (0x60 ∷ 0x3A ∷ 0x20 ∷ []) (drop n r) ≡ true → Unnamed (0x5F ∷ 0x60 ∷ r)
@@ -213,5 +214,5 @@ unnamed-quoted r f g = go (escaped_of 0x60 0x60 r) refl
         ⊎_elim
         (λ h. quoted-closed r f n e h)
         (λ h. quoted-open r f n e h g)
-        (either (starts_with (0x60 ∷ 0x3A ∷ 0x20 ∷ []) (drop n r)))
+        (cases_Bool (starts_with (0x60 ∷ 0x3A ∷ 0x20 ∷ []) (drop n r)))
     go None e = quoted-refused r f e g

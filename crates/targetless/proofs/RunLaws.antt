@@ -7,12 +7,13 @@ use Prim.Native.Nat.{ℕ, zero, suc, ◌+◌, ◌-◌, ◌<◌, ◌≤◌}
 use native.Mathlib.Omega.{arith}
 use mathlib.Core.Path.{◌≡◌, refl, sym, ap, subst⁻¹, ◌∙◌}
 use mathlib.Core.List.{List, [], ◌∷◌, ◌++◌}
-use mathlib.Core.Bool.{Bool, true, false, not, or_self, false≢true}
+use mathlib.Core.Bool.{true, false, not, or_self, false≢true}
 use mathlib.Core.Logic.{◌⊎◌, inl, inr, ⊎_elim}
 use lib.Dec.{eqb, leb}
 use lib.ListN.{length, get_or, drop, take, length-drop}
 use lib.Seq.{length-take-le, get_or-take, get_or-drop}
 use borrow.Author.Tests.{eq-eqb, ne_eqb, eqb-true, lt-ltb, leb-true, leb-false, ltb-true}
+use Rattle.std.proofs.lemmas.Bool.{and_parts, cases_Bool}
 use Rattle.rst_bytes.specs.Escaped.{is_escapable, is_stop, taking}
 use Rattle.rst_bytes.specs.Tag.{starts_with}
 use Rattle.rst_bytes.specs.Word.{is_ascii_word, word_of}
@@ -33,12 +34,7 @@ use Rattle.restructured_text.proofs.TargetLaws.{raw-is, raw-all}
 use Rattle.restructured_text.proofs.TransformLaws.{destination-dead, kept_byte, kept-alone, kept_pair, kept-wrong}
 use Rattle.targetless.specs.Verdict.{run}
 use Rattle.targetless.specs.Runs.{is_dead, is_long, no_label, escapable_of, word_labelled, destination_run, label_run, label_stop}
-use Rattle.targetless.proofs.VerdictLaws.{and_both, run-plain, run-stop, run-pair}
-
--- a test holds or does not
-pub either : (x : Bool) → (x ≡ true) ⊎ (x ≡ false)
-either true = inl refl
-either false = inr refl
+use Rattle.targetless.proofs.VerdictLaws.{run-plain, run-stop, run-pair}
 
 -- a run that meets a wrong escape
 run-refused : (t : List ℕ) → destination_run t ≡ true → is_refused (kept_of t) ≡ true
@@ -50,19 +46,19 @@ run-refused (b ∷ []) e =
     (λ f. absurd (false≢true (⊎_elim
     (λ g. sym (run-stop 10 (escapable_of false) (λ t. false) true false b [] f g) ∙ e)
     (λ g. sym (run-plain 10 (escapable_of false) (λ t. false) true false b [] f g) ∙ e)
-    (either (eqb b 10)))))
-    (either (eqb b 0x5C))
+    (cases_Bool (eqb b 10)))))
+    (cases_Bool (eqb b 0x5C))
 run-refused (b ∷ c ∷ t) e =
     ⊎_elim
     (λ f. ⊎_elim
     (λ g. kept_pair b c t f g ∙ run-refused t (sym (run-pair 10 (escapable_of false) (λ t. false) true false b c t f g) ∙ e))
     (λ g. kept-wrong b c t f g)
-    (either (is_destination_escapable c)))
+    (cases_Bool (is_destination_escapable c)))
     (λ f. kept_byte b (c ∷ t) f ∙ ⊎_elim
     (λ g. absurd (false≢true (sym (run-stop 10 (escapable_of false) (λ t. false) true false b (c ∷ t) f g) ∙ e)))
     (λ g. run-refused (c ∷ t) (sym (run-plain 10 (escapable_of false) (λ t. false) true false b (c ∷ t) f g) ∙ e))
-    (either (eqb b 10)))
-    (either (eqb b 0x5C))
+    (cases_Bool (eqb b 10)))
+    (cases_Bool (eqb b 0x5C))
 
 -- what a text begins with stands in it
 pub starts-at : (p s : List ℕ) (i : ℕ) → starts_with p s ≡ true → i < length p → get_or s i 0 ≡ get_or p i 0
@@ -73,12 +69,12 @@ starts-at (c ∷ p) (b ∷ s) zero e h =
     ⊎_elim
     (λ f. eqb-true b c f)
     (λ f. absurd (false≢true (sym (picks_second _ _ _ f) ∙ e)))
-    (either (eqb b c))
+    (cases_Bool (eqb b c))
 starts-at (c ∷ p) (b ∷ s) (suc i) e h =
     ⊎_elim
     (λ f. starts-at p s i (sym (picks_first _ _ _ f) ∙ e) (omega arith))
     (λ f. absurd (false≢true (sym (picks_second _ _ _ f) ∙ e)))
-    (either (eqb b c))
+    (cases_Bool (eqb b c))
 
 pub starts_is : (p s : List ℕ) → starts_with p s ≡ true → s ≡ p ++ drop (length p) s
 unfolding starts_with
@@ -88,14 +84,14 @@ starts_is (c ∷ p) (b ∷ s) e =
     ⊎_elim
     (λ f. ap (λ (i : ℕ). i ∷ s) (eqb-true b c f) ∙ ap (λ (l : List ℕ). c ∷ l) (starts_is p s (sym (picks_first _ _ _ f) ∙ e)))
     (λ f. absurd (false≢true (sym (picks_second _ _ _ f) ∙ e)))
-    (either (eqb b c))
+    (cases_Bool (eqb b c))
 
 -- what it ends with too
 ends_at : (p r : List ℕ) (i : ℕ) → ends_with p r ≡ true → i < length p → get_or r (length r - length p + i) 0 ≡ get_or p i 0
 unfolding ends_with
 ends_at p r i e h =
     sym (get_or-drop (length r - length p) r i 0)
-    ∙ starts-at p (drop (length r - length p) r) i (and_both (leb (length p) (length r)) _ e).1 h
+    ∙ starts-at p (drop (length r - length p) r) i (and_parts (leb (length p) (length r)) _ e).1 h
 
 -- No label begins: neither one in backticks nor a word.
 module _ (t : List ℕ) (q : backticked_of false t ≡ None) (f : word_labelled t ≡ false) where
@@ -119,7 +115,7 @@ module _ (t : List ℕ) (q : backticked_of false t ≡ None) (f : word_labelled 
       (sym z ∙ f)
 
   no-label : simple_label_of t ≡ None
-  no-label = two (either (leb 3 (word_of t))) (either (ends_with (0x5F ∷ 0x5F ∷ []) (take (word_of t) t)))
+  no-label = two (cases_Bool (leb 3 (word_of t))) (cases_Bool (ends_with (0x5F ∷ 0x5F ∷ []) (take (word_of t) t)))
     where
       one : (word_of t < 3) ⊎ (ends_with (0x5F ∷ 0x5F ∷ []) (take (word_of t) t) ≡ false) → (ends_with (0x5F ∷ []) (take (word_of t) t) ≡ true) ⊎ (ends_with (0x5F ∷ []) (take (word_of t) t) ≡ false) → simple_label_of t ≡ None
       one h (inl e) =
@@ -138,8 +134,8 @@ module _ (t : List ℕ) (q : backticked_of false t ≡ None) (f : word_labelled 
           let w = word-far (omega arith) (byte-is (length r - 2 + 1) (word_of t - 1) 0x5F (omega (arith, word_size)) (omega (arith, word_size)) (ends_at (0x5F ∷ 0x5F ∷ []) r 1 e (omega arith))) in
           let k = w.1 (byte-is (length r - 2 + 0) (word_of t - 2) 0x5F (omega (arith, word_size)) (omega (arith, word_size)) (ends_at (0x5F ∷ 0x5F ∷ []) r 0 e (omega arith))) in
           simple-long t _ _ (raw_word t q ∙ word_two t _ (word_of t) refl refl g e) (omega (arith, k))
-      two (inl l) (inr e) = one (inr e) (either (ends_with (0x5F ∷ []) (take (word_of t) t)))
-      two (inr l) e = one (inl (leb-false 3 (word_of t) l)) (either (ends_with (0x5F ∷ []) (take (word_of t) t)))
+      two (inl l) (inr e) = one (inr e) (cases_Bool (ends_with (0x5F ∷ []) (take (word_of t) t)))
+      two (inr l) e = one (inl (leb-false 3 (word_of t) l)) (cases_Bool (ends_with (0x5F ∷ []) (take (word_of t) t)))
 
 -- then the target is all of the text
 whole-dead : (t : List ℕ) → simple_label_of t ≡ None → destination_run t ≡ true → is_dead t ≡ true
@@ -234,17 +230,17 @@ label-refused (b ∷ c ∷ r) a (suc n) e f g =
     (λ k. kept_pair b c (take (n - 1) r) i k
     ∙ label-refused r (a + 2) (n - 1) (sym (taking-pair 0x60 a b c r i j) ∙ e ∙ ap Some y) (ap (λ (m : ℕ). starts_with (0x60 ∷ 0x5F ∷ []) (drop m (c ∷ r))) (sym z) ∙ f) (sym (run-pair 0x60 (escapable_of false) label_stop true true b c r i k) ∙ g))
     (λ k. kept-wrong b c (take (n - 1) r) i k)
-    (either (is_destination_escapable c))))
+    (cases_Bool (is_destination_escapable c))))
     (λ j. absurd (refused-taken (a + suc n) (sym (taking-wrong 0x60 a b c r i j) ∙ e)))
-    (either (is_escapable c)))
+    (cases_Bool (is_escapable c)))
     (λ i. ⊎_elim
     (λ j. absurd (omega (arith, taken_is a (a + suc n) (sym (taking-here 0x60 a b (c ∷ r) i j) ∙ e))))
     (λ j.
     let y : a + suc n ≡ a + 1 + n = omega arith in
     kept_byte b (take n (c ∷ r)) i
     ∙ label-refused (c ∷ r) (a + 1) n (sym (taking-byte 0x60 a b (c ∷ r) i j) ∙ e ∙ ap Some y) f (sym (run-plain 0x60 (escapable_of false) label_stop true true b (c ∷ r) i j) ∙ g))
-    (either (eqb b 0x60)))
-    (either (eqb b 0x5C))
+    (cases_Bool (eqb b 0x60)))
+    (cases_Bool (eqb b 0x5C))
 
 -- a label that is closed is the target, unless it is empty or too long
 pub dead-ticked : (r : List ℕ) → destination_run (0x60 ∷ r) ≡ true → no_label r ≡ true → is_dead (0x60 ∷ r) ≡ true

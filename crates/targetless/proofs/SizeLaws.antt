@@ -7,14 +7,14 @@ use native.Mathlib.Omega.{arith}
 use native.Mathlib.Nat.{suc-mul, zero-mul, mul_comm, le-div_iff_mul-le}
 use mathlib.Core.Path.{◌≡◌, refl, sym, ap, subst, subst⁻¹, ◌∙◌}
 use mathlib.Core.List.{List, [], ◌∷◌, ◌++◌}
-use mathlib.Core.Bool.{Bool, true, false, ◌||◌, false≢true}
+use mathlib.Core.Bool.{Bool, true, false, false≢true}
 use lib.Dec.{eqb}
-use lib.ListN.{length, get_or, drop, length-drop, length-append}
-use borrow.Author.Tests.{eq-eqb, ne_eqb, lt-ltb}
+use lib.ListN.{length, drop, length-append}
+use borrow.Author.Tests.{ne_eqb, lt-ltb}
+use Rattle.std.proofs.lemmas.Bool.{and_parts, or_right}
 use Rattle.rst_bytes.specs.Escaped.{is_escapable, taking}
 use Rattle.rst_bytes.specs.Line.{not_line_ending_of}
 use Rattle.rst_bytes.specs.Tag.{starts_with}
-use Rattle.rst_bytes.proofs.Lists.{drop-next, drop-last}
 use Rattle.rst_bytes.proofs.EscapedLaws.{refused-taken, taken_is, taken-from, taken-later, taken_back}
 use Rattle.rst_bytes.proofs.TagLaws.{starts-append}
 use Rattle.rst_bytes.proofs.LineLaws.{ending-none, not-line-ending-le}
@@ -22,21 +22,14 @@ use Rattle.restructured_text.specs.Block.{three, further_of}
 use Rattle.restructured_text.specs.Delimited.{backticked_of}
 use Rattle.restructured_text.specs.Label.{label_len_max}
 use Rattle.restructured_text.proofs.DelimitedLaws.{delimited-is}
-use Rattle.targetless.specs.declared.Verdict.{Verdict}
-use Rattle.targetless.specs.declared.Size.{Size}
+use Rattle.targetless.specs.declared.verdict.Verdict.{Verdict}
+use Rattle.targetless.specs.declared.state.Size.{Size}
 use Rattle.targetless.specs.Verdict.{joined_of, is_further, Blank, judged_of, either_of, up_to_of, lone_of, Tells, ends_line}
-use Rattle.targetless.specs.Runs.{label_run, is_long, no_label, SizeOf, Sized}
-use Rattle.targetless.proofs.TextLaws.{text-byte, text-end, text-further, line-behind, line-here, line-stops, further-lf-other, further-none-at, crlf-here, crlf-text, crlf-first, crlf-next, lf-first}
-use Rattle.targetless.proofs.VerdictLaws.{and_both, or-second, judged-lone, judged-up-to, lone_is, tells-from, tells-either, space-cases, blank-next, blank-three, blank-joined, lf-taken}
+use Rattle.targetless.specs.Runs.{label_run, is_long, no_label, more, ended, SizeOf, Sized}
+use Rattle.targetless.proofs.TextLaws.{text-byte, text-end, text-further, line-here, line-stops, further-lf-other, further-none-at, crlf-here, crlf-text}
+use Rattle.targetless.proofs.BlankLaws.{space-cases, blank-next, blank-three, blank-joined}
+use Rattle.targetless.proofs.VerdictLaws.{judged-lone, judged-up-to, lone_is, tells-either, lf-taken}
 use Rattle.targetless.proofs.RunLaws.{taking-alone, taking-byte, taking-here, taking-pair, taking-wrong}
-
--- so many bytes more
-abbrev pub more : Size → ℕ → Size
-more z n = record { kept = z.kept + n; ends = z.ends }
-
--- a line's end
-abbrev pub ended : Size → Size
-ended z = record { kept = z.kept + 1; ends = z.ends + 1 }
 
 abbrev pub none : Size
 none = record { kept = 0; ends = 0 }
@@ -124,156 +117,128 @@ module _ (z : Size) (m : ℕ) where
       let x : (z.ends + 1) * m ≡ z.ends * m + m = ap (λ (n : ℕ). n * m) (omega arith) ∙ suc-mul z.ends m in
       omega (arith, w.0, u, x, long)
 
--- A place of a text.
-module _ (s : List ℕ) (i : ℕ) (h : i < length s) (z : Size) where
+-- A text.
+module _ (z : Size) where
   -- a byte that is passed
-  pub sized-byte : ends_line (get_or s i 0) ≡ false → (get_or s i 0 ≡ 0x5C → ⊥) → (get_or s i 0 ≡ 0x60 → ⊥) → Sized z (drop (i + 1) s) → Sized (more z 1) (drop i s)
-  sized-byte e f g t = (
-    omega (arith, t.0, length-drop i s, length-drop (i + 1) s, h),
-    omega (arith, t.1, length-drop i s, length-drop (i + 1) s, h),
-    λ indent n blank j.
-        let w = text-byte indent s i n h e j in
-        subst⁻¹ (SizeOf (more z 1) (length indent + 3)) w.2 (size-byte z (length indent + 3) (get_or s i 0) _ (ne_eqb _ _ f) (ne_eqb _ _ g) (t.2 indent w.0 blank w.1)),
-  )
+  pub sized-byte : (b : ℕ) (l : List ℕ) → ends_line b ≡ false → (b ≡ 0x5C → ⊥) → (b ≡ 0x60 → ⊥) → Sized z l → Sized (more z 1) (b ∷ l)
+  sized-byte b l e f g t =
+      record {
+        kept = omega (arith, t.kept);
+        ends = omega (arith, t.ends);
+        is = λ indent n blank j.
+            let w = text-byte b l e indent n j in
+            subst⁻¹ (SizeOf (more z 1) (length indent + 3)) w.2 (size-byte z (length indent + 3) b _ (ne_eqb _ _ f) (ne_eqb _ _ g) (t.is indent w.0 blank w.1));
+      }
 
-  -- the backtick
-  pub sized-tick : get_or s i 0 ≡ 0x60 → Sized none (drop i s)
-  sized-tick f = (
-    omega arith,
-    omega arith,
-    λ indent n blank j.
-        let w = text-byte indent s i n h (ap ends_line f) j in
-        subst⁻¹ (SizeOf none (length indent + 3)) w.2 (size-tick z (length indent + 3) (get_or s i 0) _ (ne_eqb (get_or s i 0) 0x5C (λ y. omega (arith, f, y))) (eq-eqb (get_or s i 0) 0x60 f)),
-  )
+  -- a backslash before a line's end
+  pub sized-line : (c : ℕ) (l : List ℕ) → ends_line c ≡ true → Sized z (c ∷ l) → Sized (more z 1) (0x5C ∷ c ∷ l)
+  sized-line c l e t =
+      record {
+        kept = omega (arith, t.kept);
+        ends = omega (arith, t.ends);
+        is = λ indent n blank j.
+            let w = text-byte 0x5C (c ∷ l) refl indent n j in
+            subst⁻¹ (SizeOf (more z 1) (length indent + 3)) w.2 (go indent w.0 (line-stops c l w.0 e w.1) (t.is indent w.0 blank w.1));
+      }
+    where
+      further : (indent : List ℕ) (x : Option (ℕ × ℕ)) → further_of indent (c ∷ l) ≡ x → SizeOf z (length indent + 3) (joined_of indent 0 (c ∷ l)) → SizeOf (more z 1) (length indent + 3) (0x5C ∷ joined_of indent 0 (c ∷ l))
+      further indent (Some (a, m)) g v =
+          let o = text-further indent (c ∷ l) a m g in
+          subst⁻¹ (λ (x : List ℕ). SizeOf (more z 1) (length indent + 3) (0x5C ∷ x)) o (size-spaced z (length indent + 3) 0x5C (joined_of indent m (drop a (c ∷ l))) refl (subst (SizeOf z (length indent + 3)) o v))
+      further indent None g v =
+          subst⁻¹ (λ (x : List ℕ). SizeOf (more z 1) (length indent + 3) (0x5C ∷ x)) (text-end indent (c ∷ l) g) (size-alone (more z 1) (length indent + 3) 0x5C refl)
 
-  -- a backslash
-  module _ (f : get_or s i 0 ≡ 0x5C) where
-    -- at the end
-    pub sized-last : length s ≤ i + 1 → Sized none (drop i s)
-    sized-last l = (
-      omega arith,
-      omega arith,
-      λ indent n blank j.
-          let y = drop-last s i h l in
-          let w = line-behind (get_or s i 0) [] (ap ends_line f) n (ap (λ (x : List ℕ). not_line_ending_of x) (sym y) ∙ j) in
-          let o : w.0 ≡ 0 = omega (arith, not-line-ending-le [] w.0 w.1) in
-          subst⁻¹ (λ (x : List ℕ). SizeOf none (length indent + 3) (joined_of indent n x)) y
-          (subst⁻¹ (λ (k : ℕ). SizeOf none (length indent + 3) (joined_of indent k (get_or s i 0 ∷ []))) (w.2 ∙ ap suc o)
-          (subst⁻¹ (λ (x : List ℕ). SizeOf none (length indent + 3) (get_or s i 0 ∷ x)) (text-end indent [] (further-none-at indent [] (ending-none [] refl)))
-          (size-alone none (length indent + 3) (get_or s i 0) (eq-eqb _ _ f)))),
-    )
+      go : (indent : List ℕ) (k : ℕ) → k ≡ 0 → SizeOf z (length indent + 3) (joined_of indent k (c ∷ l)) → SizeOf (more z 1) (length indent + 3) (0x5C ∷ joined_of indent k (c ∷ l))
+      go indent k y v =
+          subst⁻¹ (λ (x : ℕ). SizeOf (more z 1) (length indent + 3) (0x5C ∷ joined_of indent x (c ∷ l))) y
+          (further indent (further_of indent (c ∷ l)) refl (subst (λ (x : ℕ). SizeOf z (length indent + 3) (joined_of indent x (c ∷ l))) y v))
 
-    module _ (l : i + 1 < length s) where
-      -- before a line's end
-      pub sized-line : ends_line (get_or s (i + 1) 0) ≡ true → Sized z (drop (i + 1) s) → Sized (more z 1) (drop i s)
-      sized-line e t = (
-        omega (arith, t.0, length-drop i s, length-drop (i + 1) s, h),
-        omega (arith, t.1, length-drop i s, length-drop (i + 1) s, h),
-        λ indent n blank j.
-            let w = text-byte indent s i n h (ap ends_line f) j in
-            subst⁻¹ (SizeOf (more z 1) (length indent + 3)) w.2 (go indent w.0 w.1 (t.2 indent w.0 blank w.1)),
-      )
-        where
-          go : (indent : List ℕ) (k : ℕ) → not_line_ending_of (drop (i + 1) s) ≡ Some k → SizeOf z (length indent + 3) (joined_of indent k (drop (i + 1) s)) → SizeOf (more z 1) (length indent + 3) (get_or s i 0 ∷ joined_of indent k (drop (i + 1) s))
-          go indent k j u =
-              let y : k ≡ 0 = line-stops (get_or s (i + 1) 0) (drop (i + 1 + 1) s) k e (ap (λ (x : List ℕ). not_line_ending_of x) (sym (drop-next s (i + 1) l)) ∙ j) in
-              more-line (further_of indent (drop (i + 1) s)) refl (subst (λ (x : ℕ). SizeOf z (length indent + 3) (joined_of indent x (drop (i + 1) s))) y u) y
-            where
-              more-line :
-                  (x : Option (ℕ × ℕ)) → further_of indent (drop (i + 1) s) ≡ x → SizeOf z (length indent + 3) (joined_of indent 0 (drop (i + 1) s)) → k ≡ 0
-                  → SizeOf (more z 1) (length indent + 3) (get_or s i 0 ∷ joined_of indent k (drop (i + 1) s))
-              more-line (Some (a, m)) g v y =
-                  let o = text-further indent (drop (i + 1) s) a m g in
-                  subst⁻¹ (λ (x : ℕ). SizeOf (more z 1) (length indent + 3) (get_or s i 0 ∷ joined_of indent x (drop (i + 1) s))) y
-                  (subst⁻¹ (λ (x : List ℕ). SizeOf (more z 1) (length indent + 3) (get_or s i 0 ∷ x)) o (size-spaced z (length indent + 3) (get_or s i 0) (joined_of indent m (drop a (drop (i + 1) s))) (eq-eqb _ _ f) (subst (SizeOf z (length indent + 3)) o v)))
-              more-line None g v y =
-                  subst⁻¹ (λ (x : ℕ). SizeOf (more z 1) (length indent + 3) (get_or s i 0 ∷ joined_of indent x (drop (i + 1) s))) y
-                  (subst⁻¹ (λ (x : List ℕ). SizeOf (more z 1) (length indent + 3) (get_or s i 0 ∷ x)) (text-end indent (drop (i + 1) s) g) (size-alone (more z 1) (length indent + 3) (get_or s i 0) (eq-eqb _ _ f)))
-
-      -- before another byte
-      module _ (e : ends_line (get_or s (i + 1) 0) ≡ false) where
-        two : (indent : List ℕ) (n : ℕ) → not_line_ending_of (drop i s) ≡ Some n → (m : ℕ) × (not_line_ending_of (drop (i + 2) s) ≡ Some m) × (joined_of indent n (drop i s) ≡ get_or s i 0 ∷ get_or s (i + 1) 0 ∷ joined_of indent m (drop (i + 2) s))
-        two indent n j =
-            let o : i + 1 + 1 ≡ i + 2 = omega arith in
-            let w = text-byte indent s i n h (ap ends_line f) j in
-            let y = text-byte indent s (i + 1) w.0 l e w.1 in
-            (y.0, ap (λ (k : ℕ). not_line_ending_of (drop k s)) (sym o) ∙ y.1, w.2 ∙ ap (λ (x : List ℕ). get_or s i 0 ∷ x) (y.2 ∙ ap (λ (k : ℕ). get_or s (i + 1) 0 ∷ joined_of indent y.0 (drop k s)) o))
-
-        pub sized-pair : is_escapable (get_or s (i + 1) 0) ≡ true → Sized z (drop (i + 2) s) → Sized (more z 2) (drop i s)
-        sized-pair g t = (
-          omega (arith, t.0, length-drop i s, length-drop (i + 2) s, l),
-          omega (arith, t.1, length-drop i s, length-drop (i + 2) s, l),
-          λ indent n blank j.
-              let w = two indent n j in
-              subst⁻¹ (SizeOf (more z 2) (length indent + 3)) w.2 (size-pair z (length indent + 3) (get_or s i 0) (get_or s (i + 1) 0) _ (eq-eqb _ _ f) g (t.2 indent w.0 blank w.1)),
-        )
-
-        pub sized-wrong : is_escapable (get_or s (i + 1) 0) ≡ false → Sized none (drop i s)
-        sized-wrong g = (
-          omega arith,
-          omega arith,
-          λ indent n blank j.
-              let w = two indent n j in
-              subst⁻¹ (SizeOf none (length indent + 3)) w.2 (size-wrong none (length indent + 3) (get_or s i 0) (get_or s (i + 1) 0) _ (eq-eqb _ _ f) g),
-        )
+  -- before a byte that it takes along
+  pub sized-pair : (c : ℕ) (l : List ℕ) → ends_line c ≡ false → is_escapable c ≡ true → Sized z l → Sized (more z 2) (0x5C ∷ c ∷ l)
+  sized-pair c l e g t =
+      record {
+        kept = omega (arith, t.kept);
+        ends = omega (arith, t.ends);
+        is = λ indent n blank j.
+            let w = text-byte 0x5C (c ∷ l) refl indent n j in
+            let y = text-byte c l e indent w.0 w.1 in
+            subst⁻¹ (SizeOf (more z 2) (length indent + 3)) (w.2 ∙ ap (λ (x : List ℕ). 0x5C ∷ x) y.2) (size-pair z (length indent + 3) 0x5C c _ refl g (t.is indent y.0 blank y.1));
+      }
 
   -- LF
-  pub sized-lf : get_or s i 0 ≡ 10 → (m : ℕ) → not_line_ending_of (drop (i + 1) s) ≡ Some m → Sized z (drop (i + 1) s) → Sized (ended z) (drop i s)
-  sized-lf f m line t = (
-    omega (arith, t.0, length-drop i s, length-drop (i + 1) s, h),
-    omega (arith, t.1, length-drop i s, length-drop (i + 1) s, h),
-    λ indent n blank j.
-        subst⁻¹ (λ (x : List ℕ). SizeOf (ended z) (length indent + 3) (joined_of indent n x)) (lf-first s i h f)
-        (subst⁻¹ (λ (k : ℕ). SizeOf (ended z) (length indent + 3) (joined_of indent k (10 ∷ drop (i + 1) s))) (taken_is n 0 (sym (ap (λ (x : List ℕ). not_line_ending_of x) (sym (lf-first s i h f)) ∙ j) ∙ line-here (drop (i + 1) s)))
-        (go indent blank (starts_with (indent ++ three) (drop (i + 1) s)) refl)),
-  )
+  pub sized-lf : (l : List ℕ) (m : ℕ) → not_line_ending_of l ≡ Some m → Sized z l → Sized (ended z) (10 ∷ l)
+  sized-lf l m line t =
+      record {
+        kept = omega (arith, t.kept);
+        ends = omega (arith, t.ends);
+        is = λ indent n blank j.
+            subst⁻¹ (λ (k : ℕ). SizeOf (ended z) (length indent + 3) (joined_of indent k (10 ∷ l))) (taken_is n 0 (sym j ∙ line-here l))
+            (go indent blank (starts_with (indent ++ three) l) refl);
+      }
     where
-      go : (indent : List ℕ) → Blank indent → (x : Bool) → starts_with (indent ++ three) (drop (i + 1) s) ≡ x → SizeOf (ended z) (length indent + 3) (joined_of indent 0 (10 ∷ drop (i + 1) s))
+      go : (indent : List ℕ) → Blank indent → (x : Bool) → starts_with (indent ++ three) l ≡ x → SizeOf (ended z) (length indent + 3) (joined_of indent 0 (10 ∷ l))
       go indent blank true e =
-          let l = drop (i + 1) s in
           let q = indent ++ three in
           let w = lf-taken indent l blank m line e in
           subst⁻¹ (SizeOf (ended z) (length indent + 3)) (text-further indent (10 ∷ l) (suc (length q)) w.0 w.2)
           (size-line z (length indent + 3) q (joined_of indent w.0 (drop (length q) l)) (blank-three indent blank) (length-append indent three)
-          (subst (SizeOf z (length indent + 3)) (blank-joined indent q l m w.0 (blank-three indent blank) e line w.1) (t.2 indent m blank line)))
+          (subst (SizeOf z (length indent + 3)) (blank-joined indent q l m w.0 (blank-three indent blank) e line w.1) (t.is indent m blank line)))
       go indent blank false e =
-          subst⁻¹ (SizeOf (ended z) (length indent + 3)) (text-end indent (10 ∷ drop (i + 1) s) (further-lf-other indent (drop (i + 1) s) e)) (size-empty (ended z) (length indent + 3))
+          subst⁻¹ (SizeOf (ended z) (length indent + 3)) (text-end indent (10 ∷ l) (further-lf-other indent l e)) (size-empty (ended z) (length indent + 3))
 
--- CR LF
-pub sized-cr : (s : List ℕ) (i : ℕ) → i + 1 < length s → get_or s i 0 ≡ 13 → get_or s (i + 1) 0 ≡ 10 → (z : Size) → Sized z (drop (i + 1) s) → Sized z (drop i s)
-sized-cr s i h e f z t = (
-  omega (arith, t.0, length-drop i s, length-drop (i + 1) s),
-  omega (arith, t.1, length-drop i s, length-drop (i + 1) s),
-  λ indent n blank j.
-      let l = drop (i + 2) s in
-      let a = crlf-first s i h e f in
-      let b = crlf-next s i h e f in
-      subst⁻¹ (λ (x : List ℕ). SizeOf z (length indent + 3) (joined_of indent n x)) a
-      (subst⁻¹ (λ (k : ℕ). SizeOf z (length indent + 3) (joined_of indent k (13 ∷ 10 ∷ l))) (taken_is n 0 (sym (ap (λ (x : List ℕ). not_line_ending_of x) (sym a) ∙ j) ∙ crlf-here l))
-      (subst⁻¹ (SizeOf z (length indent + 3)) (crlf-text indent l)
-      (subst (λ (x : List ℕ). SizeOf z (length indent + 3) (joined_of indent 0 x)) b (t.2 indent 0 blank (ap (λ (x : List ℕ). not_line_ending_of x) b ∙ line-here l))))),
-)
+  -- CR LF
+  pub sized-cr : (l : List ℕ) → Sized z (10 ∷ l) → Sized z (13 ∷ 10 ∷ l)
+  sized-cr l t =
+      record {
+        kept = omega (arith, t.kept);
+        ends = omega (arith, t.ends);
+        is = λ indent n blank j.
+            subst⁻¹ (λ (k : ℕ). SizeOf z (length indent + 3) (joined_of indent k (13 ∷ 10 ∷ l))) (taken_is n 0 (sym j ∙ crlf-here l))
+            (subst⁻¹ (SizeOf z (length indent + 3)) (crlf-text indent l) (t.is indent 0 blank (line-here l)));
+      }
+
+  -- a line that is refused
+  pub sized-refused : (b : ℕ) (l : List ℕ) → not_line_ending_of (b ∷ l) ≡ None → Sized z l → Sized z (b ∷ l)
+  sized-refused b l h t =
+      record { kept = omega (arith, t.kept); ends = omega (arith, t.ends); is = λ indent n blank j. absurd (refused-taken n (sym h ∙ j)) }
+
+-- what no label goes on with
+none_sized : (s : List ℕ) → ((indent : List ℕ) (n : ℕ) → Blank indent → not_line_ending_of s ≡ Some n → SizeOf none (length indent + 3) (joined_of indent n s)) → Sized none s
+none_sized s f = record { kept = omega arith; ends = omega arith; is = f }
+
+-- the backtick
+pub sized-tick : (l : List ℕ) → Sized none (0x60 ∷ l)
+sized-tick l =
+    none_sized (0x60 ∷ l) (λ indent n blank j.
+    let w = text-byte 0x60 l refl indent n j in
+    subst⁻¹ (SizeOf none (length indent + 3)) w.2 (size-tick none (length indent + 3) 0x60 _ refl refl))
+
+-- a backslash that refuses what it stands in: the last byte, ..
+pub sized-last : Sized none (0x5C ∷ [])
+sized-last =
+    none_sized (0x5C ∷ []) (λ indent n blank j.
+    let w = text-byte 0x5C [] refl indent n j in
+    let o : w.0 ≡ 0 = omega (arith, not-line-ending-le [] w.0 w.1) in
+    subst⁻¹ (SizeOf none (length indent + 3)) (w.2 ∙ ap (λ (k : ℕ). 0x5C ∷ joined_of indent k []) o ∙ ap (λ (x : List ℕ). 0x5C ∷ x) (text-end indent [] (further-none-at indent [] (ending-none [] refl))))
+    (size-alone none (length indent + 3) 0x5C refl))
+
+-- .. or before a byte that it may not stand before
+pub sized-wrong : (c : ℕ) (l : List ℕ) → ends_line c ≡ false → is_escapable c ≡ false → Sized none (0x5C ∷ c ∷ l)
+sized-wrong c l e g =
+    none_sized (0x5C ∷ c ∷ l) (λ indent n blank j.
+    let w = text-byte 0x5C (c ∷ l) refl indent n j in
+    let y = text-byte c l e indent w.0 w.1 in
+    subst⁻¹ (SizeOf none (length indent + 3)) (w.2 ∙ ap (λ (x : List ℕ). 0x5C ∷ x) y.2) (size-wrong none (length indent + 3) 0x5C c _ refl g))
 
 -- where no further line can follow
 pub sized-none : (s : List ℕ) → not_line_ending_of s ≡ Some 0 → ((indent : List ℕ) → Blank indent → further_of indent s ≡ None) → Sized none s
-sized-none s h g = (
-  omega arith,
-  omega arith,
-  λ indent n blank j.
-      subst⁻¹ (λ (k : ℕ). SizeOf none (length indent + 3) (joined_of indent k s)) (taken_is n 0 (sym j ∙ h))
-      (subst⁻¹ (SizeOf none (length indent + 3)) (text-end indent s (g indent blank)) (size-empty none (length indent + 3))),
-)
-
--- a line that is refused
-pub sized-refused : (s : List ℕ) (z : Size) → z.kept ≤ length s → z.ends ≤ length s → not_line_ending_of s ≡ None → Sized z s
-sized-refused s z a b h = (a, b, λ indent n blank j. absurd (refused-taken n (sym h ∙ j)))
+sized-none s h g =
+    none_sized s (λ indent n blank j.
+    subst⁻¹ (λ (k : ℕ). SizeOf none (length indent + 3) (joined_of indent k s)) (taken_is n 0 (sym j ∙ h))
+    (subst⁻¹ (SizeOf none (length indent + 3)) (text-end indent s (g indent blank)) (size-empty none (length indent + 3))))
 
 -- Labels behind a backtick.
 module _ (s : List ℕ) (label : Verdict) (z : Size) (t : Tells label_run label s) (q : Sized z s) where
-  -- what is told of a label that is not closed, or refused
-  pub label-short : Tells no_label label s
-  label-short = tells-from label_run no_label label s t (λ indent n e f. ap (λ (x : Bool). x || is_long (backticked_of false (0x60 ∷ joined_of indent n s))) f)
-
   -- it is too long
   long-text :
       (indent : List ℕ) (n : ℕ) → Blank indent → not_line_ending_of s ≡ Some n → z.ends * (length indent + 3) + 1000 ≤ z.kept
@@ -285,27 +250,32 @@ module _ (s : List ℕ) (label : Verdict) (z : Size) (t : Tells label_run label 
           let r = joined_of indent n s in
           let d = delimited-is (0x60 ∷ []) 0x60 0x60 (0x60 ∷ 0x5F ∷ []) (0x60 ∷ r) k g in
           let o : 0 + k ≡ k = omega arith in
-          let w = q.2 indent n blank e k (taken-from 0x60 0x60 0 r k d.inner ∙ ap Some o) (and_both _ _ (sym (starts-append (0x60 ∷ []) (0x5F ∷ []) (drop k r)) ∙ d.ends)).0 in
+          let w = q.is indent n blank e k (taken-from 0x60 0x60 0 r k d.inner ∙ ap Some o) (and_parts _ _ (sym (starts-append (0x60 ∷ []) (0x5F ∷ []) (drop k r)) ∙ d.ends)).0 in
           lt-ltb label_len_max k (omega (arith, h, w))
       go None g = refl
 
   -- for each indent
   pub label-everywhere : z.ends ≡ 0 → 1000 ≤ z.kept → (v : Verdict) → Tells no_label v s
-  label-everywhere a b v indent n blank e j =
-      let o : z.ends * (length indent + 3) ≡ 0 = ap (λ (x : ℕ). x * (length indent + 3)) a ∙ zero-mul (length indent + 3) in
-      or-second (label_run (joined_of indent n s)) _ (long-text indent n blank e (omega (arith, b, o)))
+  label-everywhere a b v =
+      record {
+        told = λ indent n blank e j.
+            let o : z.ends * (length indent + 3) ≡ 0 = ap (λ (x : ℕ). x * (length indent + 3)) a ∙ zero-mul (length indent + 3) in
+            or_right (label_run (joined_of indent n s)) _ (long-text indent n blank e (omega (arith, b, o)));
+      }
 
   -- for short ones
   pub label-far : 0 < z.ends → 1000 ≤ z.kept → Tells no_label (either_of label (lone_of (up_to_of ((z.kept - 1000) / z.ends)) false)) s
   label-far a b = tells-either label_run (λ r. is_long (backticked_of false (0x60 ∷ r))) label (lone_of (up_to_of ((z.kept - 1000) / z.ends)) false) s t far
     where
       far : Tells (λ r. is_long (backticked_of false (0x60 ∷ r))) (lone_of (up_to_of ((z.kept - 1000) / z.ends)) false) s
-      far indent n blank e = go (is_further (further_of indent (drop n s)))
+      far = record { told = λ indent n blank e. go indent n blank e (is_further (further_of indent (drop n s))) }
         where
-          go : (x : Bool) → judged_of (lone_of (up_to_of ((z.kept - 1000) / z.ends)) false) x (length indent) ≡ true → is_long (backticked_of false (0x60 ∷ joined_of indent n s)) ≡ true
-          go true j =
+          go :
+              (indent : List ℕ) (n : ℕ) → Blank indent → not_line_ending_of s ≡ Some n → (x : Bool) → judged_of (lone_of (up_to_of ((z.kept - 1000) / z.ends)) false) x (length indent) ≡ true
+              → is_long (backticked_of false (0x60 ∷ joined_of indent n s)) ≡ true
+          go indent n blank e true j =
               let w = judged-up-to ((z.kept - 1000) / z.ends) (length indent) (judged-lone (up_to_of ((z.kept - 1000) / z.ends)) false (length indent) j) in
               let y = (le-div_iff_mul-le a).0 w in
               let o = mul_comm (length indent + 3) z.ends in
               long-text indent n blank e (omega (arith, b, y, o))
-          go false j = absurd (false≢true (lone_is (up_to_of ((z.kept - 1000) / z.ends)) false (length indent) j))
+          go indent n blank e false j = absurd (false≢true (lone_is (up_to_of ((z.kept - 1000) / z.ends)) false (length indent) j))

@@ -2,315 +2,217 @@
 -- is the first bytes of the text that say it, and these are those of the line, or where the line ends a space or nothing.
 -- Assumes nothing.
 use Rattle.std.proofs.Common.{Option, Some, None}
-use Prim.Native.Nat.{ℕ, ◌+◌, ◌<◌, ◌≤◌}
-use native.Mathlib.Omega.{arith}
-use mathlib.Core.Path.{◌≡◌, refl, sym, ap, subst⁻¹, ◌∙◌}
-use mathlib.Core.List.{List, [], ◌∷◌}
-use mathlib.Core.Bool.{Bool, true, false, ◌&&◌, ◌||◌, not, false≢true, true≢false}
-use mathlib.Core.Logic.{◌⊎◌, inl, inr, ⊎_elim}
-use lib.Dec.{eqb}
-use lib.ListN.{length, get_or, drop, length-drop, get_or-eq_default}
-use borrow.Author.Tests.{eq-eqb, ne_eqb, eqb-true}
-use Rattle.rst_bytes.specs.Line.{line_from, not_line_ending_of}
+use Rattle.std.proofs.Common.{◌≡◌, ℕ, ◌<◌, List, [], ◌∷◌, Bool, true, false, ◌&&◌, ◌⊎◌, inl, inr, ⊎_elim, length, get_or, drop, refl, sym, ap, subst, ◌∙◌, eqb, ne_eqb, arith}
+use Rattle.std.proofs.lemmas.Bool.{and_parts, true≢false, cases_Bool}
+use mathlib.Core.Bool.{◌||◌, not}
+use mathlib.Core.Path.{subst⁻¹}
+use Rattle.rst_bytes.specs.Line.{not_line_ending_of}
 use Rattle.rst_bytes.specs.Tag.{starts_with}
-use Rattle.rst_bytes.proofs.Lists.{drop-next, drop-two, drop-end, part-from}
-use Rattle.rst_bytes.proofs.TagLaws.{starts-le}
-use Rattle.rst_bytes.proofs.TestLaws.{picks_first, picks_second, by-test, lt-or-le}
+use Rattle.rst_bytes.proofs.Lists.{drop-two}
+use Rattle.rst_bytes.proofs.TestLaws.{by-test}
 use Rattle.rst_bytes.proofs.EscapedLaws.{taken_is}
-use Rattle.restructured_text.specs.Block.{further_of, lines_of}
-use Rattle.restructured_text.proofs.BlockLaws.{from}
-use Rattle.restructured_text.specs.Transform.{is_destination_escapable}
-use Rattle.rst_bytes.specs.Escaped.{is_escapable}
-use Rattle.targetless.specs.declared.Verdict.{Verdict}
-use Rattle.targetless.specs.Verdict.{joined_of, ends_line, Tells, nothing, everything, both_of, escape_of, run}
-use Rattle.targetless.specs.Runs.{escapable_of, word_labelled, is_dead, destination_run, label_stop, no_label, label_run, plain_stop, line_stop, plain_run, quoted_stop, quoted_run, closed_stop, closed_run}
-use Rattle.targetless.proofs.TextLaws.{text-byte, text-end, text-further, line-stops}
-use Rattle.targetless.proofs.VerdictLaws.{and_both, tells-nothing, tells_all, tells-from, tells_both, tells-behind, tells-plain, tells-stop, tells-escape}
+use Rattle.restructured_text.specs.Block.{further_of}
+use Rattle.targetless.specs.declared.verdict.Verdict.{Verdict}
+use Rattle.targetless.specs.declared.state.State.{State}
+use Rattle.targetless.specs.Verdict.{joined_of, ends_line, OfText, Tells, everything, both_of, run}
+use Rattle.targetless.specs.Runs.{escapable_of, word_labelled, is_dead, destination_run, label_stop, no_label, more, plain_stop, line_stop, plain_run, quoted_stop, closed_stop, StateTells}
+use Rattle.targetless.proofs.TextLaws.{first-is, text-byte, text-end, text-further, line-stops}
+use Rattle.targetless.proofs.VerdictLaws.{tells_all, tells-from, tells_both, tells-cons, tells-front, run-plain, tells-plain, tells-stop, further-end, line-last}
 use Rattle.targetless.proofs.RunLaws.{dead-unlabelled, dead-two-ticks, dead-ticked}
 use Rattle.targetless.proofs.WordLaws.{word-joined}
+use Rattle.targetless.proofs.SizeLaws.{none, sized-byte, sized-tick}
 
 -- a byte that is neither LF nor CR
 not-lf : (b : ℕ) → ends_line b ≡ false → b ≡ 10 → ⊥
 not-lf b e f = absurd (true≢false (sym (rw f refl) ∙ e))
 
--- Nothing stands from the end of s on.
-text-none : (indent s : List ℕ) (i n : ℕ) → length s ≤ i → not_line_ending_of (drop i s) ≡ Some n → joined_of indent n (drop i s) ≡ []
-unfolding line_from lines_of
-text-none indent s i n h e =
-    let d = drop-end s i h in
-    let z : n ≡ 0 = taken_is n 0 (sym e ∙ ap (line_from 0) d) in
-    ap (λ (l : List ℕ). joined_of indent n l) d ∙ ap (λ (m : ℕ). joined_of indent m []) z
-
--- a place of s, where a line ends
-ends-within : (s : List ℕ) (i : ℕ) → ends_line (get_or s i 0) ≡ true → i < length s
-ends-within s i e = ⊎_elim (λ h. h) (λ h. absurd (false≢true (sym (ap ends_line (get_or-eq_default s 0 h)) ∙ e))) (lt-or-le i (length s))
-
--- the text that begins there
-module _ (indent s : List ℕ) (i n : ℕ) (e : ends_line (get_or s i 0) ≡ true) (t : not_line_ending_of (drop i s) ≡ Some n) where
-  pub ends-here : n ≡ 0
-  ends-here = let h = ends-within s i e in line-stops (get_or s i 0) (drop (i + 1) s) n e (ap (line_from 0) (sym (drop-next s i h)) ∙ t)
+-- The text that begins where a line ends.
+module _ (indent : List ℕ) (b : ℕ) (l : List ℕ) (n : ℕ) (e : ends_line b ≡ true) (t : not_line_ending_of (b ∷ l) ≡ Some n) where
+  zero-here : joined_of indent n (b ∷ l) ≡ joined_of indent 0 (b ∷ l)
+  zero-here = ap (λ (m : ℕ). joined_of indent m (b ∷ l)) (line-stops b l n e t)
 
   -- where no further line follows
-  pub text-alone : further_of indent (drop n (drop i s)) ≡ None → joined_of indent n (drop i s) ≡ []
-  text-alone f =
-      ap (λ (m : ℕ). joined_of indent m (drop i s)) ends-here ∙ text-end indent (drop i s) (ap (λ (m : ℕ). further_of indent (drop m (drop i s))) (sym ends-here) ∙ f)
+  pub text-alone : further_of indent (b ∷ l) ≡ None → joined_of indent n (b ∷ l) ≡ []
+  text-alone f = zero-here ∙ text-end indent (b ∷ l) f
 
   -- or one does
-  pub text-ended : (joined_of indent n (drop i s) ≡ []) ⊎ ((l : List ℕ) × (joined_of indent n (drop i s) ≡ 0x20 ∷ l))
-  text-ended = go (further_of indent (drop i s)) refl
+  pub text-ended : (joined_of indent n (b ∷ l) ≡ []) ⊎ ((r : List ℕ) × (joined_of indent n (b ∷ l) ≡ 0x20 ∷ r))
+  text-ended = go (further_of indent (b ∷ l)) refl
     where
-      none : joined_of indent n (drop i s) ≡ joined_of indent 0 (drop i s)
-      none = ap (λ (m : ℕ). joined_of indent m (drop i s)) ends-here
-
-      go : (x : Option (ℕ × ℕ)) → further_of indent (drop i s) ≡ x → (joined_of indent n (drop i s) ≡ []) ⊎ ((l : List ℕ) × (joined_of indent n (drop i s) ≡ 0x20 ∷ l))
-      go (Some (a, m)) f = inr (joined_of indent m (drop a (drop i s)), none ∙ text-further indent (drop i s) a m f)
-      go None f = inl (none ∙ text-end indent (drop i s) f)
+      go : (x : Option (ℕ × ℕ)) → further_of indent (b ∷ l) ≡ x → (joined_of indent n (b ∷ l) ≡ []) ⊎ ((r : List ℕ) × (joined_of indent n (b ∷ l) ≡ 0x20 ∷ r))
+      go (Some (a, m)) f = inr (joined_of indent m (drop a (b ∷ l)), zero-here ∙ text-further indent (b ∷ l) a m f)
+      go None f = inl (text-alone f)
 
 -- one byte at the front
 pub starts-one : (c b : ℕ) (r : List ℕ) → starts_with (c ∷ []) (b ∷ r) ≡ eqb b c
 unfolding starts_with
 starts-one c b r = by-test (λ x. x ≡ eqb b c) (eqb b c) _ _ (λ e. sym e) (λ e. sym e)
 
--- With a byte that is no space a text begins only if the line does.
-pub first_byte_lem :
-    (indent s : List ℕ) (i n c : ℕ) → (c ≡ 0x20 → ⊥) → not_line_ending_of (drop i s) ≡ Some n → starts_with (c ∷ []) (drop i s) ≡ false
-    → starts_with (c ∷ []) (joined_of indent n (drop i s)) ≡ false
-unfolding starts_with
-first_byte_lem indent s i n c f e k = go (ends_line (get_or s i 0)) refl
+-- The text's end.
+text-none : (indent : List ℕ) → OfText (λ t. t ≡ []) indent []
+text-none indent n e = zero_is n (sym (taken_is n 0 (sym e ∙ line-last)))
   where
-    begins : (l : List ℕ) → joined_of indent n (drop i s) ≡ l → starts_with (c ∷ []) l ≡ false → starts_with (c ∷ []) (joined_of indent n (drop i s)) ≡ false
-    begins l z q = ap (starts_with (c ∷ [])) z ∙ q
+    zero_is : (n : ℕ) → 0 ≡ n → joined_of indent n [] ≡ []
+    zero_is n z = ap (λ (m : ℕ). joined_of indent m []) (sym z) ∙ text-end indent [] (further-end indent)
 
-    go : (b : Bool) → ends_line (get_or s i 0) ≡ b → starts_with (c ∷ []) (joined_of indent n (drop i s)) ≡ false
-    go true g =
-        ⊎_elim
-        (λ z. begins [] z refl)
-        (λ z. begins (0x20 ∷ z.0) z.1 (starts-one c 0x20 z.0 ∙ ne_eqb 0x20 c (λ (x : 0x20 ≡ c). f (sym x))))
-        (text-ended indent s i n g e)
-    go false g =
-        ⊎_elim
-        (λ h.
-        let z = text-byte indent s i n h g e in
-        begins (get_or s i 0 ∷ joined_of indent z.0 (drop (i + 1) s)) z.2
-        (starts-one c (get_or s i 0) (joined_of indent z.0 (drop (i + 1) s)) ∙ sym (ap (starts_with (c ∷ [])) (drop-next s i h) ∙ starts-one c (get_or s i 0) (drop (i + 1) s)) ∙ k))
-        (λ h. begins [] (text-none indent s i n h e) refl)
-        (lt-or-le i (length s))
+-- With a byte that is no space a text begins only if the line does.
+pub first-not : (c : ℕ) (l : List ℕ) → (c ≡ 0x20 → ⊥) → (0 < length l → get_or l 0 0 ≡ c → ⊥) → (indent : List ℕ) → OfText (λ t. starts_with (c ∷ []) t ≡ false) indent l
+unfolding starts_with
+first-not c [] f h indent n e = ap (starts_with (c ∷ [])) (text-none indent n e)
+first-not c (b ∷ l) f h indent n e =
+    ⊎_elim
+    (λ g. ⊎_elim
+    (λ z. ap (starts_with (c ∷ [])) z)
+    (λ z. ap (starts_with (c ∷ [])) z.1 ∙ starts-one c 0x20 z.0 ∙ ne_eqb 0x20 c (λ (x : 0x20 ≡ c). f (sym x)))
+    (text-ended indent b l n g e))
+    (λ g.
+    let z = text-byte b l g indent n e in
+    ap (starts_with (c ∷ [])) z.2 ∙ starts-one c b (joined_of indent z.0 l) ∙ ne_eqb b c (h (omega arith)))
+    (cases_Bool (ends_line b))
 
-module _ (s : List ℕ) (i : ℕ) (h : i < length s) where
-  -- A byte that is passed.
-  module _ (e : ends_line (get_or s i 0) ≡ false) (b : get_or s i 0 ≡ 0x5C → ⊥) where
-    pub pass-destination : (v : Verdict) → Tells destination_run v (drop (i + 1) s) → Tells destination_run v (drop i s)
-    pass-destination v k = tells-plain 10 (escapable_of false) (λ t. false) true false v s i h e b (not-lf _ e) k
+-- what is told of each text with the byte in front
+tells-each : (f : List ℕ → Bool) (b : ℕ) (l : List ℕ) → ends_line b ≡ false → ((indent : List ℕ) → OfText (λ t. f (b ∷ t) ≡ true) indent l) → Tells f everything (b ∷ l)
+tells-each f b l e h =
+    tells_all f everything (b ∷ l) (λ indent n t.
+    let z = text-byte b l e indent n t in
+    ap f z.2 ∙ h indent z.0 z.1)
 
-    pub pass-label : (get_or s i 0 ≡ 0x60 → ⊥) → (v : Verdict) → Tells label_run v (drop (i + 1) s) → Tells label_run v (drop i s)
-    pass-label f v k = tells-plain 0x60 (escapable_of false) label_stop true true v s i h e b f k
+-- A byte that is passed.
+pub state-passed :
+    (x : State) (b : ℕ) (l : List ℕ) → ends_line b ≡ false → (b ≡ 0x5C → ⊥) → (b ≡ 0x60 → ⊥) → (b ≡ 0x3A → ⊥) → StateTells x l
+    → (t : Verdict) → Tells is_dead t (b ∷ l) → StateTells (record x { target = t; size = more x.size 1 }) (b ∷ l)
+state-passed x b l e f g h p t d =
+    record {
+      destination = tells-plain 10 (escapable_of false) (λ t. false) true false x.destination b l e f (not-lf b e) p.destination;
+      label = tells-plain 0x60 (escapable_of false) label_stop true true x.label b l e f g p.label;
+      plain = tells-plain 0x3A (escapable_of true) plain_stop true true x.plain b l e f h p.plain;
+      quoted = tells-plain 0x60 (escapable_of true) quoted_stop true true x.quoted b l e f g p.quoted;
+      closed = tells-plain 0x60 (escapable_of true) closed_stop false false x.closed b l e f g p.closed;
+      target = d;
+      size = sized-byte x.size b l e f g p.size;
+    }
 
-    pub pass-plain : (get_or s i 0 ≡ 0x3A → ⊥) → (v : Verdict) → Tells plain_run v (drop (i + 1) s) → Tells plain_run v (drop i s)
-    pass-plain f v k = tells-plain 0x3A (escapable_of true) plain_stop true true v s i h e b f k
+-- A destination goes on behind it.
+destination-passed : (v : Verdict) (b : ℕ) (l : List ℕ) → ends_line b ≡ false → (b ≡ 0x5C → ⊥) → Tells destination_run v l → Tells destination_run v (b ∷ l)
+destination-passed v b l e f t = tells-plain 10 (escapable_of false) (λ t. false) true false v b l e f (not-lf b e) t
 
-    pub pass-quoted : (get_or s i 0 ≡ 0x60 → ⊥) → (v : Verdict) → Tells quoted_run v (drop (i + 1) s) → Tells quoted_run v (drop i s)
-    pass-quoted f v k = tells-plain 0x60 (escapable_of true) quoted_stop true true v s i h e b f k
+module _ (l : List ℕ) where
+  -- The stops, where a backtick stands in front.
+  pub state-tick :
+      (x : State) (a q c t : Verdict) → StateTells x l → Tells label_stop a (0x60 ∷ l) → Tells quoted_stop q (0x60 ∷ l) → Tells closed_stop c (0x60 ∷ l)
+      → Tells is_dead t (0x60 ∷ l) → StateTells (record x { label = a; quoted = q; closed = c; target = t; size = none }) (0x60 ∷ l)
+  state-tick x a q c t p i j k d =
+      record {
+        destination = destination-passed x.destination 0x60 l refl (λ e. omega (arith, e)) p.destination;
+        label = tells-stop 0x60 (escapable_of false) label_stop true true a l refl (λ e. omega (arith, e)) i;
+        plain = tells-plain 0x3A (escapable_of true) plain_stop true true x.plain 0x60 l refl (λ e. omega (arith, e)) (λ e. omega (arith, e)) p.plain;
+        quoted = tells-stop 0x60 (escapable_of true) quoted_stop true true q l refl (λ e. omega (arith, e)) j;
+        closed = tells-stop 0x60 (escapable_of true) closed_stop false false c l refl (λ e. omega (arith, e)) k;
+        target = d;
+        size = sized-tick l;
+      }
 
-    pub pass-closed : (get_or s i 0 ≡ 0x60 → ⊥) → (v : Verdict) → Tells closed_run v (drop (i + 1) s) → Tells closed_run v (drop i s)
-    pass-closed f v k = tells-plain 0x60 (escapable_of true) closed_stop false false v s i h e b f k
+  -- no `_` stands behind it
+  pub label-open : (0 < length l → get_or l 0 0 ≡ 0x5F → ⊥) → Tells label_stop everything (0x60 ∷ l)
+  unfolding starts_with
+  label-open h = tells-each label_stop 0x60 l refl (λ indent n t. ap not (first-not 0x5F l (λ e. omega (arith, e)) h indent n t))
 
-  -- A stop.
-  module _ (e : ends_line (get_or s i 0) ≡ false) where
-    pub stop-label : get_or s i 0 ≡ 0x60 → (v : Verdict) → Tells label_stop v (drop i s) → Tells label_run v (drop i s)
-    stop-label f v k = tells-stop 0x60 (escapable_of false) label_stop true true v s i h e f (λ (x : 0x60 ≡ 0x5C). absurd (omega (arith, x))) k
+  -- no colon does: it closes no name
+  pub quoted-open : (0 < length l → get_or l 0 0 ≡ 0x3A → ⊥) → Tells quoted_stop everything (0x60 ∷ l)
+  unfolding starts_with
+  quoted-open h = tells-each quoted_stop 0x60 l refl (λ indent n t. other (joined_of indent n l) (first-not 0x3A l (λ e. omega (arith, e)) h indent n t))
+    where
+      other : (r : List ℕ) → starts_with (0x3A ∷ []) r ≡ false → quoted_stop (0x60 ∷ r) ≡ true
+      other [] q = refl
+      other (b ∷ r) q = ap (λ (x : Bool). not (elim x [ true ↦ starts_with (0x20 ∷ []) r | false ↦ false ]) || is_dead (drop 1 r)) (sym (starts-one 0x3A b r) ∙ q)
 
-    pub stop-plain : get_or s i 0 ≡ 0x3A → (v : Verdict) → Tells plain_stop v (drop i s) → Tells plain_run v (drop i s)
-    stop-plain f v k = tells-stop 0x3A (escapable_of true) plain_stop true true v s i h e f (λ (x : 0x3A ≡ 0x5C). absurd (omega (arith, x))) k
+  -- one does: the next place's plain name ends there, or has a target that is refused
+  pub quoted-plain : (v : Verdict) → 0 < length l → get_or l 0 0 ≡ 0x3A → Tells plain_run v l → Tells quoted_stop v (0x60 ∷ l)
+  unfolding starts_with run
+  quoted-plain v h e t =
+      let is = first-is l 0x3A h e in
+      tells-cons quoted_stop (λ r. quoted_stop (0x60 ∷ r)) v 0x60 l refl (λ r k. k)
+      (subst⁻¹ (Tells (λ r. quoted_stop (0x60 ∷ r)) v) is (tells-front (λ r. quoted_stop (0x60 ∷ r)) plain_run v 0x3A (drop 1 l) refl same (subst (Tells plain_run v) is t)))
+    where
+      same : (r : List ℕ) → plain_run (0x3A ∷ r) ≡ true → quoted_stop (0x60 ∷ 0x3A ∷ r) ≡ true
+      same [] q = q
+      same (b ∷ r) q = q
 
-    pub stop-quoted : get_or s i 0 ≡ 0x60 → (v : Verdict) → Tells quoted_stop v (drop i s) → Tells quoted_run v (drop i s)
-    stop-quoted f v k = tells-stop 0x60 (escapable_of true) quoted_stop true true v s i h e f (λ (x : 0x60 ≡ 0x5C). absurd (omega (arith, x))) k
+  -- a colon and a space do: it closes a name
+  pub closed-tick : 1 < length l → get_or l 0 0 ≡ 0x3A → get_or l 1 0 ≡ 0x20 → Tells closed_stop everything (0x60 ∷ l)
+  unfolding starts_with
+  closed-tick h e f =
+      let is : l ≡ 0x3A ∷ 0x20 ∷ drop 2 l = drop-two l 0 h ∙ ap (λ (b : ℕ). b ∷ get_or l 1 0 ∷ drop 2 l) e ∙ ap (λ (b : ℕ). 0x3A ∷ b ∷ drop 2 l) f in
+      subst⁻¹ (λ (r : List ℕ). Tells closed_stop everything (0x60 ∷ r)) is
+      (tells-each closed_stop 0x60 (0x3A ∷ 0x20 ∷ drop 2 l) refl (λ indent n t.
+      let y = text-byte 0x3A (0x20 ∷ drop 2 l) refl indent n t in
+      let z = text-byte 0x20 (drop 2 l) refl indent y.0 y.1 in
+      ap (λ (r : List ℕ). closed_stop (0x60 ∷ r)) (y.2 ∙ ap (λ (r : List ℕ). 0x3A ∷ r) z.2)))
 
-    pub stop-closed : get_or s i 0 ≡ 0x60 → (v : Verdict) → Tells closed_stop v (drop i s) → Tells closed_run v (drop i s)
-    stop-closed f v k = tells-stop 0x60 (escapable_of true) closed_stop false false v s i h e f (λ (x : 0x60 ≡ 0x5C). absurd (omega (arith, x))) k
+  -- A target behind a space that begins with a backtick: two of them are no label; else it is a label's or a destination.
+  pub target-two : (v : Verdict) → 0 < length l → get_or l 0 0 ≡ 0x60 → Tells destination_run v l → Tells is_dead v (0x60 ∷ l)
+  target-two v h e t =
+      let is = first-is l 0x60 h e in
+      subst⁻¹ (λ (r : List ℕ). Tells is_dead v (0x60 ∷ r)) is
+      (tells-cons is_dead (λ r. is_dead (0x60 ∷ r)) v 0x60 (0x60 ∷ drop 1 l) refl (λ r k. k)
+      (tells-front (λ r. is_dead (0x60 ∷ r)) destination_run v 0x60 (drop 1 l) refl
+      (λ r k. dead-two-ticks r (run-plain 10 (escapable_of false) (λ t. false) true false 0x60 (0x60 ∷ r) refl refl ∙ k))
+      (subst (Tells destination_run v) is t)))
 
-  -- A backslash.
-  module _ (f : get_or s i 0 ≡ 0x5C) (near far : Verdict) where
-    pub escape-destination :
-        Tells destination_run near (drop (i + 1) s) → Tells destination_run far (drop (i + 2) s)
-        → Tells destination_run (escape_of (escapable_of false) true near far (drop i s)) (drop i s)
-    unfolding is_destination_escapable
-    escape-destination k j = tells-escape 10 (escapable_of false) (λ t. false) true false near far s i h f refl (λ (x : 10 ≡ 0x20). absurd (omega (arith, x))) k j
+  pub target-ticked : (a b : Verdict) → Tells destination_run a l → Tells no_label b l → Tells is_dead (both_of a b) (0x60 ∷ l)
+  target-ticked a b g j =
+      tells-cons is_dead (λ t. destination_run t && no_label t) (both_of a b) 0x60 l refl
+      (λ t p.
+      let q = and_parts _ _ p in
+      dead-ticked t (run-plain 10 (escapable_of false) (λ t. false) true false 0x60 t refl refl ∙ q.0) q.1)
+      (tells_both destination_run no_label a b l g j)
 
-    pub escape-label :
-        Tells label_run near (drop (i + 1) s) → Tells label_run far (drop (i + 2) s)
-        → Tells label_run (escape_of (escapable_of false) true near far (drop i s)) (drop i s)
-    unfolding is_destination_escapable
-    escape-label k j = tells-escape 0x60 (escapable_of false) label_stop true true near far s i h f refl (λ (x : 0x60 ≡ 0x20). absurd (omega (arith, x))) k j
+  -- Another target, where no word that is a label begins.
+  pub target-other : (v : Verdict) (b : ℕ) → ends_line b ≡ false → (b ≡ 0x60 → ⊥) → word_labelled (b ∷ l) ≡ false → Tells destination_run v (b ∷ l) → Tells is_dead v (b ∷ l)
+  target-other v b e f k t =
+      tells-from destination_run is_dead v (b ∷ l) t (λ indent n h p.
+      let z = text-byte b l e indent n h in
+      dead-unlabelled (joined_of indent n (b ∷ l)) (ap (starts_with (0x60 ∷ [])) z.2 ∙ starts-one 0x60 b (joined_of indent z.0 l) ∙ ne_eqb _ _ f) (word-joined indent (b ∷ l) n h k) p)
 
-    pub escape-plain :
-        Tells plain_run near (drop (i + 1) s) → Tells plain_run far (drop (i + 2) s)
-        → Tells plain_run (escape_of (escapable_of true) true near far (drop i s)) (drop i s)
-    unfolding is_escapable
-    escape-plain k j = tells-escape 0x3A (escapable_of true) plain_stop true true near far s i h f refl (λ (x : 0x3A ≡ 0x20). absurd (omega (arith, x))) k j
+  -- The stop, where a colon stands in front.
+  pub state-colon :
+      (x : State) (a t : Verdict) → StateTells x l → Tells plain_stop a (0x3A ∷ l) → Tells is_dead t (0x3A ∷ l)
+      → StateTells (record x { plain = a; target = t; size = more x.size 1 }) (0x3A ∷ l)
+  state-colon x a t p i d =
+      record {
+        destination = destination-passed x.destination 0x3A l refl (λ e. omega (arith, e)) p.destination;
+        label = tells-plain 0x60 (escapable_of false) label_stop true true x.label 0x3A l refl (λ e. omega (arith, e)) (λ e. omega (arith, e)) p.label;
+        plain = tells-stop 0x3A (escapable_of true) plain_stop true true a l refl (λ e. omega (arith, e)) i;
+        quoted = tells-plain 0x60 (escapable_of true) quoted_stop true true x.quoted 0x3A l refl (λ e. omega (arith, e)) (λ e. omega (arith, e)) p.quoted;
+        closed = tells-plain 0x60 (escapable_of true) closed_stop false false x.closed 0x3A l refl (λ e. omega (arith, e)) (λ e. omega (arith, e)) p.closed;
+        target = d;
+        size = sized-byte x.size 0x3A l refl (λ e. omega (arith, e)) (λ e. omega (arith, e)) p.size;
+      }
 
-    pub escape-quoted :
-        Tells quoted_run near (drop (i + 1) s) → Tells quoted_run far (drop (i + 2) s)
-        → Tells quoted_run (escape_of (escapable_of true) true near far (drop i s)) (drop i s)
-    unfolding is_escapable
-    escape-quoted k j = tells-escape 0x60 (escapable_of true) quoted_stop true true near far s i h f refl (λ (x : 0x60 ≡ 0x20). absurd (omega (arith, x))) k j
+  -- a space stands behind it, and the target
+  pub plain-target : (v : Verdict) → 0 < length l → get_or l 0 0 ≡ 0x20 → Tells is_dead v (drop 1 l) → Tells plain_stop v (0x3A ∷ l)
+  unfolding starts_with
+  plain-target v h e t =
+      tells-cons plain_stop (λ r. plain_stop (0x3A ∷ r)) v 0x3A l refl (λ r k. k)
+      (subst⁻¹ (Tells (λ r. plain_stop (0x3A ∷ r)) v) (first-is l 0x20 h e) (tells-cons (λ r. plain_stop (0x3A ∷ r)) is_dead v 0x20 (drop 1 l) refl (λ r k. k) t))
 
-    pub escape-closed :
-        Tells closed_run near (drop (i + 1) s) → Tells closed_run far (drop (i + 2) s)
-        → Tells closed_run (escape_of (escapable_of true) false near far (drop i s)) (drop i s)
-    unfolding is_escapable
-    escape-closed k j = tells-escape 0x60 (escapable_of true) closed_stop false false near far s i h f refl (λ (x : 0x60 ≡ 0x20). absurd (omega (arith, x))) k j
+  -- the line's end: what stands behind the colon tells
+  pub plain-line : (v : Verdict) → Tells line_stop v l → Tells plain_stop v (0x3A ∷ l)
+  plain-line v t = tells-cons plain_stop line_stop v 0x3A l refl (λ r k. k) t
 
-  -- nothing is told
-  pub tells_none : (g : List ℕ → Bool) → Tells g nothing (drop i s)
-  tells_none g = tells-nothing g (drop i s)
+-- neither stands behind it
+pub plain-open : (l : List ℕ) → (0 < length l → (get_or l 0 0 ≡ 0x20 → ⊥) × (ends_line (get_or l 0 0) ≡ false)) → Tells plain_stop everything (0x3A ∷ l)
+unfolding starts_with
+plain-open [] h = tells-each plain_stop 0x3A [] refl (λ indent n t. ap (λ (r : List ℕ). plain_stop (0x3A ∷ r)) (text-none indent n t))
+plain-open (b ∷ l) h =
+    let w = h (omega arith) in
+    tells-each plain_stop 0x3A (b ∷ l) refl (λ indent n t.
+    let z = text-byte b l w.1 indent n t in
+    ap (λ (r : List ℕ). plain_stop (0x3A ∷ r)) z.2 ∙ ap (λ (x : Bool). not (elim x [ true ↦ true | false ↦ false ]) || is_dead (joined_of indent z.0 l)) (ne_eqb b 0x20 w.0))
 
-  module _ (e : ends_line (get_or s i 0) ≡ false) where
-    -- a text begins with the line's byte
-    begins : (indent : List ℕ) (n : ℕ) → not_line_ending_of (drop i s) ≡ Some n → (r : List ℕ) × (m : ℕ) × (not_line_ending_of (drop (i + 1) s) ≡ Some m) × (r ≡ joined_of indent m (drop (i + 1) s)) × (joined_of indent n (drop i s) ≡ get_or s i 0 ∷ r)
-    begins indent n t =
-        let z = text-byte indent s i n h e t in
-        (joined_of indent z.0 (drop (i + 1) s), z.0, z.1, refl, z.2)
-
-    -- the byte behind it is another one
-    pub second : (a c : ℕ) → get_or s i 0 ≡ a → (c ≡ 0x20 → ⊥) → starts_with (a ∷ c ∷ []) (drop i s) ≡ false → starts_with (c ∷ []) (drop (i + 1) s) ≡ false
-    unfolding starts_with
-    second a c f g k = sym (ap (starts_with (a ∷ c ∷ [])) (drop-next s i h) ∙ picks_first (eqb (get_or s i 0) a) _ _ (eq-eqb _ _ f)) ∙ k
-
-    -- it is the second of two that stand there
-    pub followed : (a c : ℕ) (p : List ℕ) → get_or s i 0 ≡ a → starts_with (a ∷ c ∷ p) (drop i s) ≡ true → (i + 1 < length s) × (get_or s (i + 1) 0 ≡ c) × (starts_with p (drop (i + 2) s) ≡ true)
-    unfolding starts_with
-    followed a c p f q =
-        let l = starts-le (a ∷ c ∷ p) (drop i s) q in
-        let j : i + 1 < length s = omega (arith, l, length-drop i s) in
-        let w : starts_with (c ∷ p) (get_or s (i + 1) 0 ∷ drop (i + 2) s) ≡ true = sym (ap (starts_with (a ∷ c ∷ p)) (drop-two s i j) ∙ picks_first (eqb (get_or s i 0) a) _ _ (eq-eqb _ _ f)) ∙ q in
-        let y = go j w (eqb (get_or s (i + 1) 0) c) refl in
-        (j, y.0, y.1)
-      where
-        go : i + 1 < length s → starts_with (c ∷ p) (get_or s (i + 1) 0 ∷ drop (i + 2) s) ≡ true → (x : Bool) → eqb (get_or s (i + 1) 0) c ≡ x → (get_or s (i + 1) 0 ≡ c) × (starts_with p (drop (i + 2) s) ≡ true)
-        go j w true z = (eqb-true _ _ z, sym (picks_first (eqb (get_or s (i + 1) 0) c) _ _ z) ∙ w)
-        go j w false z = absurd (false≢true (sym (picks_second (eqb (get_or s (i + 1) 0) c) _ _ z) ∙ w))
-
-    -- and a text begins with both
-    pub two : (indent : List ℕ) (n c : ℕ) → not_line_ending_of (drop i s) ≡ Some n → i + 1 < length s → get_or s (i + 1) 0 ≡ c → ends_line c ≡ false → (m : ℕ) × (not_line_ending_of (drop (i + 2) s) ≡ Some m) × (joined_of indent n (drop i s) ≡ get_or s i 0 ∷ c ∷ joined_of indent m (drop (i + 2) s))
-    two indent n c t j g q =
-        let z = text-byte indent s i n h e t in
-        let y = text-byte indent s (i + 1) z.0 j (ap ends_line g ∙ q) z.1 in
-        let o : i + 1 + 1 ≡ i + 2 = omega arith in
-        (y.0, ap (λ (k : ℕ). not_line_ending_of (drop k s)) (sym o) ∙ y.1, z.2 ∙ ap (λ (l : List ℕ). get_or s i 0 ∷ l) (y.2 ∙ ap (λ (b : ℕ). b ∷ joined_of indent y.0 (drop (i + 1 + 1) s)) g ∙ ap (λ (k : ℕ). c ∷ joined_of indent y.0 (drop k s)) o))
-
-    -- At a backtick.
-    module _ (f : get_or s i 0 ≡ 0x60) where
-      pub label-open : starts_with (0x60 ∷ 0x5F ∷ []) (from s i) ≡ false → Tells label_stop (everything) (drop i s)
-      unfolding starts_with
-      label-open k =
-          tells_all label_stop everything (drop i s) (λ indent n t.
-          let z = begins indent n t in
-          let q = first_byte_lem indent s (i + 1) z.1 0x5F (λ (x : 0x5F ≡ 0x20). absurd (omega (arith, x))) z.2 (second 0x60 0x5F f (λ (x : 0x5F ≡ 0x20). absurd (omega (arith, x))) (ap (starts_with (0x60 ∷ 0x5F ∷ [])) (sym (part-from s i)) ∙ k)) in
-          ap label_stop (z.4 ∙ ap (λ (b : ℕ). b ∷ z.0) f ∙ ap (λ (l : List ℕ). 0x60 ∷ l) z.3) ∙ ap not q)
-
-      -- it closes no name
-      pub quoted-open : starts_with (0x60 ∷ 0x3A ∷ []) (from s i) ≡ false → Tells quoted_stop (everything) (drop i s)
-      unfolding starts_with
-      quoted-open k =
-          tells_all quoted_stop everything (drop i s) (λ indent n t.
-          let z = begins indent n t in
-          let q = first_byte_lem indent s (i + 1) z.1 0x3A (λ (x : 0x3A ≡ 0x20). absurd (omega (arith, x))) z.2 (second 0x60 0x3A f (λ (x : 0x3A ≡ 0x20). absurd (omega (arith, x))) (ap (starts_with (0x60 ∷ 0x3A ∷ [])) (sym (part-from s i)) ∙ k)) in
-          ap quoted_stop (z.4 ∙ ap (λ (b : ℕ). b ∷ z.0) f ∙ ap (λ (l : List ℕ). 0x60 ∷ l) z.3) ∙ none-closed (joined_of indent z.1 (drop (i + 1) s)) q)
-        where
-          none-closed : (r : List ℕ) → starts_with (0x3A ∷ []) r ≡ false → quoted_stop (0x60 ∷ r) ≡ true
-          none-closed [] q = refl
-          none-closed (b ∷ r) q = ap (λ (x : Bool). not (elim x [ true ↦ starts_with (0x20 ∷ []) r | false ↦ false ]) || is_dead (drop 1 r)) (sym (starts-one 0x3A b r) ∙ q)
-
-      -- the next place's plain name ends there, or has a target that is refused
-      pub quoted-plain : starts_with (0x60 ∷ 0x3A ∷ []) (from s i) ≡ true → (v : Verdict) → Tells plain_run v (drop (i + 1) s) → Tells quoted_stop v (drop i s)
-      unfolding starts_with run
-      quoted-plain k v g =
-          tells-from (λ t. plain_run (drop 1 t)) quoted_stop v (drop i s) (tells-behind plain_run v s i h e g) (λ indent n t p.
-          let c = followed 0x60 0x3A [] f (ap (starts_with (0x60 ∷ 0x3A ∷ [])) (sym (part-from s i)) ∙ k) in
-          let y = two indent n 0x3A t c.0 c.1 refl in
-          let r = joined_of indent y.0 (drop (i + 2) s) in
-          let w : joined_of indent n (drop i s) ≡ 0x60 ∷ 0x3A ∷ r = y.2 ∙ ap (λ (b : ℕ). b ∷ 0x3A ∷ r) f in
-          ap quoted_stop w ∙ same r (sym (ap (λ (l : List ℕ). plain_run (drop 1 l)) w) ∙ p))
-        where
-          same : (r : List ℕ) → plain_run (0x3A ∷ r) ≡ true → quoted_stop (0x60 ∷ 0x3A ∷ r) ≡ true
-          same [] q = q
-          same (b ∷ r) q = q
-
-      -- it closes a name
-      pub closed-tick : starts_with (0x60 ∷ 0x3A ∷ 0x20 ∷ []) (from s i) ≡ true → Tells closed_stop (everything) (drop i s)
-      unfolding starts_with
-      closed-tick k =
-          tells_all closed_stop everything (drop i s) (λ indent n t.
-          let c = followed 0x60 0x3A (0x20 ∷ []) f (ap (starts_with (0x60 ∷ 0x3A ∷ 0x20 ∷ [])) (sym (part-from s i)) ∙ k) in
-          let y = two indent n 0x3A t c.0 c.1 refl in
-          let l = starts-le (0x20 ∷ []) (drop (i + 2) s) c.2 in
-          let j : i + 2 < length s = omega (arith, l, length-drop (i + 2) s) in
-          let b : get_or s (i + 2) 0 ≡ 0x20 = eqb-true _ _ (sym (ap (starts_with (0x20 ∷ [])) (drop-next s (i + 2) j) ∙ starts-one 0x20 (get_or s (i + 2) 0) (drop (i + 2 + 1) s)) ∙ c.2) in
-          let x = text-byte indent s (i + 2) y.0 j (ap ends_line b) y.1 in
-          ap closed_stop (y.2 ∙ ap (λ (d : ℕ). d ∷ 0x3A ∷ joined_of indent y.0 (drop (i + 2) s)) f ∙ ap (λ (l : List ℕ). 0x60 ∷ 0x3A ∷ l) (x.2 ∙ ap (λ (d : ℕ). d ∷ joined_of indent x.0 (drop (i + 2 + 1) s)) b)))
-
-      -- A target behind a space that begins with a backtick: two of them are no label; else it is a label's or a destination.
-      pub target-two : starts_with (0x60 ∷ 0x60 ∷ []) (from s i) ≡ true → (v : Verdict) → Tells destination_run v (drop i s) → Tells is_dead v (drop i s)
-      target-two k v g =
-          tells-from destination_run is_dead v (drop i s) g (λ indent n t p.
-          let c = followed 0x60 0x60 [] f (ap (starts_with (0x60 ∷ 0x60 ∷ [])) (sym (part-from s i)) ∙ k) in
-          let y = two indent n 0x60 t c.0 c.1 refl in
-          let r = joined_of indent y.0 (drop (i + 2) s) in
-          let w : joined_of indent n (drop i s) ≡ 0x60 ∷ 0x60 ∷ r = y.2 ∙ ap (λ (b : ℕ). b ∷ 0x60 ∷ r) f in
-          ap is_dead w ∙ dead-two-ticks r (sym (ap destination_run w) ∙ p))
-
-      pub target-ticked :
-          (a b : Verdict) → Tells destination_run a (drop i s) → Tells no_label b (drop (i + 1) s) → Tells is_dead (both_of a b) (drop i s)
-      target-ticked a b g j =
-          tells-from (λ t. destination_run t && no_label (drop 1 t)) is_dead (both_of a b) (drop i s) (tells_both destination_run (λ t. no_label (drop 1 t)) a b (drop i s) g (tells-behind no_label b s i h e j)) (λ indent n t p.
-          let z = begins indent n t in
-          let w : joined_of indent n (drop i s) ≡ 0x60 ∷ z.0 = z.4 ∙ ap (λ (c : ℕ). c ∷ z.0) f in
-          let q = and_both _ _ (sym (ap (λ (l : List ℕ). destination_run l && no_label (drop 1 l)) w) ∙ p) in
-          ap is_dead w ∙ dead-ticked z.0 q.0 q.1)
-
-    -- Another target, where no word that is a label begins.
-    pub target-other :
-        (get_or s i 0 ≡ 0x60 → ⊥) → word_labelled (drop i s) ≡ false → (v : Verdict) → Tells destination_run v (drop i s) → Tells is_dead v (drop i s)
-    target-other f k v g =
-        tells-from destination_run is_dead v (drop i s) g (λ indent n t p.
-        let z = begins indent n t in
-        dead-unlabelled (joined_of indent n (drop i s)) (ap (starts_with (0x60 ∷ [])) z.4 ∙ starts-one 0x60 (get_or s i 0) z.0 ∙ ne_eqb _ _ f) (word-joined indent (drop i s) n t k) p)
-
-    -- At a colon.
-    module _ (f : get_or s i 0 ≡ 0x3A) where
-      -- the last byte
-      pub plain-last : length s ≤ i + 1 → Tells plain_stop (everything) (drop i s)
-      unfolding starts_with
-      plain-last k =
-          tells_all plain_stop everything (drop i s) (λ indent n t.
-          let z = begins indent n t in
-          ap plain_stop (z.4 ∙ ap (λ (c : ℕ). c ∷ z.0) f ∙ ap (λ (l : List ℕ). 0x3A ∷ l) (z.3 ∙ text-none indent s (i + 1) z.1 k z.2)))
-
-      -- no space behind it
-      pub plain_other : i + 1 < length s → ends_line (get_or s (i + 1) 0) ≡ false → (get_or s (i + 1) 0 ≡ 0x20 → ⊥) → Tells plain_stop (everything) (drop i s)
-      unfolding starts_with
-      plain_other j q g =
-          tells_all plain_stop everything (drop i s) (λ indent n t.
-          let y = two indent n (get_or s (i + 1) 0) t j refl q in
-          let r = joined_of indent y.0 (drop (i + 2) s) in
-          ap plain_stop (y.2 ∙ ap (λ (c : ℕ). c ∷ get_or s (i + 1) 0 ∷ r) f) ∙ ap (λ (x : Bool). not (elim x [ true ↦ true | false ↦ false ]) || is_dead r) (ne_eqb (get_or s (i + 1) 0) 0x20 g))
-
-      -- the target behind it
-      pub plain-target : i + 1 < length s → get_or s (i + 1) 0 ≡ 0x20 → (v : Verdict) → Tells is_dead v (drop (i + 2) s) → Tells plain_stop v (drop i s)
-      unfolding starts_with
-      plain-target j q v g =
-          let o : i + 1 + 1 ≡ i + 2 = omega arith in
-          let a = tells-behind is_dead v s (i + 1) j (ap ends_line q) (subst⁻¹ (λ (k : ℕ). Tells is_dead v (drop k s)) o g) in
-          tells-from (λ t. is_dead (drop 1 (drop 1 t))) plain_stop v (drop i s) (tells-behind (λ t. is_dead (drop 1 t)) v s i h e a) (λ indent n t p.
-          let y = two indent n 0x20 t j q refl in
-          let r = joined_of indent y.0 (drop (i + 2) s) in
-          let w : joined_of indent n (drop i s) ≡ 0x3A ∷ 0x20 ∷ r = y.2 ∙ ap (λ (c : ℕ). c ∷ 0x20 ∷ r) f in
-          ap plain_stop w ∙ sym (ap (λ (l : List ℕ). is_dead (drop 1 (drop 1 l))) w) ∙ p)
-
-      -- the line's end: what stands behind the colon tells
-      pub plain-line : (v : Verdict) → Tells line_stop v (drop (i + 1) s) → Tells plain_stop v (drop i s)
-      plain-line v g =
-          tells-from (λ t. line_stop (drop 1 t)) plain_stop v (drop i s) (tells-behind line_stop v s i h e g) (λ indent n t p.
-          let z = begins indent n t in
-          let w : joined_of indent n (drop i s) ≡ 0x3A ∷ z.0 = z.4 ∙ ap (λ (c : ℕ). c ∷ z.0) f in
-          ap plain_stop w ∙ sym (ap (λ (l : List ℕ). line_stop (drop 1 l)) w) ∙ p)
+-- another target, by the text's first byte
+pub target-plain :
+    (s : List ℕ) (v : Verdict) → 0 < length s → ends_line (get_or s 0 0) ≡ false → (get_or s 0 0 ≡ 0x5C → ⊥) → (get_or s 0 0 ≡ 0x60 → ⊥) → word_labelled s ≡ false
+    → Tells destination_run v (drop 1 s) → Tells is_dead v s
+target-plain [] v h e f g k t = absurd (omega arith)
+target-plain (b ∷ l) v h e f g k t = target-other l v b e g k (destination-passed v b l e f t)

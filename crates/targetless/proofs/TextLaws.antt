@@ -2,7 +2,7 @@
 -- with a space behind the bytes that are cut, and CR LF ends a line as LF does. Each goes by the first bytes.
 -- Assumes nothing.
 use Rattle.std.proofs.Common.{Option, Some, None}
-use Prim.Native.Nat.{ℕ, suc, ◌+◌, ◌<◌, ◌≤◌}
+use Prim.Native.Nat.{ℕ, suc, ◌+◌, ◌<◌}
 use native.Mathlib.Omega.{arith}
 use mathlib.Core.Path.{◌≡◌, refl, sym, ap, ◌∙◌}
 use mathlib.Core.List.{List, [], ◌∷◌, ◌++◌}
@@ -13,13 +13,13 @@ use lib.Seq.{drop-drop}
 use borrow.Author.Tests.{ne_eqb}
 use Rattle.rst_bytes.specs.Line.{starts_lf, line_from, line_ending_of, not_line_ending_of}
 use Rattle.rst_bytes.specs.Tag.{starts_with}
-use Rattle.rst_bytes.proofs.Lists.{drop-next, drop-two, drop-last}
+use Rattle.rst_bytes.proofs.Lists.{drop-next, part-from}
 use Rattle.rst_bytes.proofs.TestLaws.{by-test, by-test₂, neither}
 use Rattle.rst_bytes.proofs.EscapedLaws.{refused-taken, taken_is}
 use Rattle.rst_bytes.proofs.LineLaws.{ending-lf, ending-crlf}
 use Rattle.rst_bytes.proofs.TagLaws.{starts-append}
 use Rattle.restructured_text.specs.Block.{three, cut_of, line_at, further_of, Joining, lines_of}
-use Rattle.restructured_text.proofs.BlockLaws.{cut-none, further-none, lines_end, lines-further}
+use Rattle.restructured_text.proofs.BlockLaws.{from, cut-none, further-none, lines_end, lines-further}
 use Rattle.targetless.specs.Verdict.{joined_of, is_further, ends_line}
 
 -- what is taken, with k bytes before it
@@ -42,6 +42,14 @@ line-later k (b ∷ l) n =
 pub ends-none : (b : ℕ) → (b ≡ 10 → ⊥) → (b ≡ 13 → ⊥) → ends_line b ≡ false
 ends-none b e f = ap (λ (x : Bool). x || eqb b 13) (ne_eqb b 10 e) ∙ ne_eqb b 13 f
 
+-- a text by its first byte
+pub first-is : (l : List ℕ) (c : ℕ) → 0 < length l → get_or l 0 0 ≡ c → l ≡ c ∷ drop 1 l
+first-is l c h e = drop-next l 0 h ∙ ap (λ (b : ℕ). b ∷ drop 1 l) e
+
+-- with the rest as the code has it
+pub first-from : (s : List ℕ) (c : ℕ) → 0 < length s → get_or s 0 0 ≡ c → s ≡ c ∷ from s 1
+first-from s c h e = first-is s c h e ∙ ap (λ (l : List ℕ). c ∷ l) (sym (part-from s 1))
+
 -- A byte that ends no line.
 module _ (b : ℕ) (l : List ℕ) (e : ends_line b ≡ false) where
   line-more : not_line_ending_of (b ∷ l) ≡ later 1 (not_line_ending_of l)
@@ -50,7 +58,7 @@ module _ (b : ℕ) (l : List ℕ) (e : ends_line b ≡ false) where
       let w = neither (eqb b 10) (eqb b 13) e in
       rw (w.0, w.1, line_from) (line-later 1 l 0)
 
-  line_refused : not_line_ending_of l ≡ None → not_line_ending_of (b ∷ l) ≡ None
+  pub line_refused : not_line_ending_of l ≡ None → not_line_ending_of (b ∷ l) ≡ None
   line_refused f = line-more ∙ ap (later 1) f
 
   pub line_taken : (m : ℕ) → not_line_ending_of l ≡ Some m → not_line_ending_of (b ∷ l) ≡ Some (1 + m)
@@ -71,45 +79,28 @@ module _ (b : ℕ) (l : List ℕ) (e : ends_line b ≡ false) where
       go (Some m) g = absurd (refused-taken (1 + m) (sym f ∙ line-more ∙ ap (later 1) g))
       go None g = g
 
--- The same at a place of a text.
-pub text-byte :
-    (indent s : List ℕ) (i n : ℕ) → i < length s → ends_line (get_or s i 0) ≡ false → not_line_ending_of (drop i s) ≡ Some n
-    → (m : ℕ) × (not_line_ending_of (drop (i + 1) s) ≡ Some m) × (joined_of indent n (drop i s) ≡ get_or s i 0 ∷ joined_of indent m (drop (i + 1) s))
-    × (drop n (drop i s) ≡ drop m (drop (i + 1) s))
-text-byte indent s i n h e f =
-    let z = drop-next s i h in
-    let w = line-behind (get_or s i 0) (drop (i + 1) s) e n (ap (λ (l : List ℕ). not_line_ending_of l) (sym z) ∙ f) in (
-      w.0,
-      w.1,
-      ap (λ (l : List ℕ). joined_of indent n l) z ∙ ap (λ (k : ℕ). joined_of indent k (get_or s i 0 ∷ drop (i + 1) s)) w.2,
-      ap (drop n) z ∙ ap (λ (k : ℕ). drop k (get_or s i 0 ∷ drop (i + 1) s)) w.2,
-    )
+  -- and the text
+  pub text-byte :
+      (indent : List ℕ) (n : ℕ) → not_line_ending_of (b ∷ l) ≡ Some n
+      → (m : ℕ) × (not_line_ending_of l ≡ Some m) × (joined_of indent n (b ∷ l) ≡ b ∷ joined_of indent m l) × (drop n (b ∷ l) ≡ drop m l)
+  text-byte indent n f =
+      let w = line-behind n f in
+      (w.0, w.1, ap (λ (k : ℕ). joined_of indent k (b ∷ l)) w.2, ap (λ (k : ℕ). drop k (b ∷ l)) w.2)
 
--- A line that is refused.
-pub broken-byte : (s : List ℕ) (i : ℕ) → i < length s → ends_line (get_or s i 0) ≡ false → not_line_ending_of (drop (i + 1) s) ≡ None → not_line_ending_of (drop i s) ≡ None
-broken-byte s i h e f = rw (drop-next s i h) (line_refused (get_or s i 0) (drop (i + 1) s) e f)
-
--- one that is not
-pub taken-byte : (s : List ℕ) (i m : ℕ) → i < length s → ends_line (get_or s i 0) ≡ false → not_line_ending_of (drop (i + 1) s) ≡ Some m → not_line_ending_of (drop i s) ≡ Some (1 + m)
-taken-byte s i m h e f = ap (λ (l : List ℕ). not_line_ending_of l) (drop-next s i h) ∙ line_taken (get_or s i 0) (drop (i + 1) s) e m f
-
--- CR that no LF follows: it is the last byte
-pub broken-last : (s : List ℕ) (i : ℕ) → i < length s → get_or s i 0 ≡ 13 → length s ≤ i + 1 → not_line_ending_of (drop i s) ≡ None
-unfolding line_from
-broken-last s i h e l = rw (drop-last s i h l, e) refl
-
--- or another byte stands behind it
-pub broken-cr : (s : List ℕ) (i : ℕ) → i + 1 < length s → get_or s i 0 ≡ 13 → (get_or s (i + 1) 0 ≡ 10 → ⊥) → not_line_ending_of (drop i s) ≡ None
-unfolding line_from
-broken-cr s i h e f = rw (drop-two s i h, e) (rw (ne_eqb _ _ f, line_from) refl)
+-- CR that no LF follows
+pub cr-refused : (l : List ℕ) → starts_with (10 ∷ []) l ≡ false → not_line_ending_of (13 ∷ l) ≡ None
+unfolding line_from starts_with
+cr-refused [] h = refl
+cr-refused (b ∷ l) h = go (eqb b 10) refl h
+  where
+    go : (x : Bool) → eqb b 10 ≡ x → elim x [ true ↦ true | false ↦ false ] ≡ false → not_line_ending_of (13 ∷ b ∷ l) ≡ None
+    go true e f = absurd (true≢false f)
+    go false e f = rw (e, line_from) refl
 
 -- At a line's end.
 pub line-here : (l : List ℕ) → not_line_ending_of (10 ∷ l) ≡ Some 0
 unfolding line_from
 line-here l = refl
-
-pub taken-lf : (s : List ℕ) (i : ℕ) → i < length s → get_or s i 0 ≡ 10 → not_line_ending_of (drop i s) ≡ Some 0
-taken-lf s i h e = rw (drop-next s i h, e) (line-here (drop (i + 1) s))
 
 -- a byte that ends a line, if it is not refused
 pub line-stops : (b : ℕ) (l : List ℕ) (n : ℕ) → ends_line b ≡ true → not_line_ending_of (b ∷ l) ≡ Some n → n ≡ 0
@@ -228,20 +219,3 @@ module _ (indent l : List ℕ) where
 pub crlf-here : (l : List ℕ) → not_line_ending_of (13 ∷ 10 ∷ l) ≡ Some 0
 unfolding line_from
 crlf-here l = refl
-
--- CR LF at a place
-module _ (s : List ℕ) (i : ℕ) (h : i + 1 < length s) (e : get_or s i 0 ≡ 13) (f : get_or s (i + 1) 0 ≡ 10) where
-  pub crlf-next : drop (i + 1) s ≡ 10 ∷ drop (i + 2) s
-  crlf-next =
-      let z : i + 1 + 1 ≡ i + 2 = omega arith in
-      drop-next s (i + 1) h ∙ ap (λ (b : ℕ). b ∷ drop (i + 1 + 1) s) f ∙ ap (λ (k : ℕ). 10 ∷ drop k s) z
-
-  pub crlf-first : drop i s ≡ 13 ∷ 10 ∷ drop (i + 2) s
-  crlf-first = drop-two s i h ∙ ap (λ (b : ℕ). b ∷ get_or s (i + 1) 0 ∷ drop (i + 2) s) e ∙ ap (λ (b : ℕ). 13 ∷ b ∷ drop (i + 2) s) f
-
-  pub taken-cr : not_line_ending_of (drop i s) ≡ Some 0
-  taken-cr = ap (λ (l : List ℕ). not_line_ending_of l) crlf-first ∙ crlf-here (drop (i + 2) s)
-
--- LF at a place
-pub lf-first : (s : List ℕ) (i : ℕ) → i < length s → get_or s i 0 ≡ 10 → drop i s ≡ 10 ∷ drop (i + 1) s
-lf-first s i h e = drop-next s i h ∙ ap (λ (b : ℕ). b ∷ drop (i + 1) s) e

@@ -1,79 +1,116 @@
 -- What is kept at a place is true of it if what is kept at the next one is: at the text's end and where the next line is refused no line follows; over a
 -- line's end each run goes on, and a target that begins there is a destination, since a space stands before it. And the marks: none is set, or one more.
 -- Assumes nothing.
-use Rattle.std.proofs.Common.{Option, Some, None}
-use Prim.Native.Nat.{ℕ, ◌+◌, ◌-◌, ◌<◌, ◌≤◌}
-use native.Mathlib.Omega.{arith}
-use mathlib.Core.Path.{◌≡◌, refl, sym, ap, subst, subst⁻¹, ◌∙◌}
-use mathlib.Core.List.{List, [], ◌∷◌}
-use mathlib.Core.Bool.{Bool, true, false, false≢true, true≢false}
-use mathlib.Core.Logic.{⊎_elim}
-use lib.Dec.{eqb}
-use lib.ListN.{length, get_or, drop, set, replicate, length-drop, length-replicate, get_or-replicate, get_or-eq_default}
-use lib.Seq.{get_or-set_other}
-use borrow.Author.Tests.{eqb-true, eqb-false}
-use Rattle.rst_bytes.specs.Line.{is_space, space0_of, not_line_ending_of, line_from}
+use Rattle.std.proofs.Common.{◌≡◌, ℕ, suc, ◌+◌, ◌-◌, ◌<◌, List, [], ◌∷◌, Bool, true, false, Option, Some, None, ⊎_elim, length, get_or, drop, set, replicate, eqb, eqb-true, refl, sym, ap, subst, ◌∙◌, arith}
+use Rattle.std.proofs.lemmas.Bool.{false≢true}
+use Rattle.std.proofs.Math.Seq.{drop-length}
+use mathlib.Core.Path.{subst⁻¹}
+use lib.ListN.{length-replicate, get_or-replicate, get_or-eq_default}
+use borrow.Author.Tests.{eqb-false}
+use lib.Seq.{drop-drop, get_or-set_other}
+use Rattle.rst_bytes.specs.Line.{is_space, space0_of, not_line_ending_of}
 use Rattle.rst_bytes.specs.Tag.{starts_with}
 use Rattle.rst_bytes.specs.Word.{is_ascii_word}
-use Rattle.rst_bytes.proofs.Lists.{drop-end, drop-next}
-use Rattle.rst_bytes.proofs.TestLaws.{by-test, lt-or-le}
+use Rattle.rst_bytes.proofs.Lists.{part-from}
+use Rattle.rst_bytes.proofs.TestLaws.{lt-or-le}
 use Rattle.rst_bytes.proofs.EscapedLaws.{refused-taken, taken_is}
-use Rattle.rst_bytes.proofs.LineLaws.{ending-none}
 use Rattle.restructured_text.specs.Block.{further_of}
-use Rattle.targetless.specs.declared.Verdict.{Verdict}
-use Rattle.targetless.specs.declared.State.{State}
-use Rattle.targetless.specs.declared.line.Walk.{Walk}
+use Rattle.restructured_text.proofs.BlockLaws.{from}
+use Rattle.targetless.specs.declared.verdict.Verdict.{Verdict}
+use Rattle.targetless.specs.declared.state.State.{State}
+use Rattle.targetless.specs.declared.walk.Walk.{Walk}
 use Rattle.targetless.specs.Targetless.{NoTarget, Marks}
-use Rattle.targetless.specs.Verdict.{is_further, Blank, is_lone, Shared, judged_of, joined_of, Tells, ends_line, over_of, lone_of, everything, nothing}
-use Rattle.targetless.specs.Runs.{escapable_of, is_dead, destination_run, label_run, label_stop, plain_run, plain_stop, quoted_run, quoted_stop, closed_run, closed_stop, line_stop, StateTells}
-use Rattle.targetless.specs.Walk.{last_of, over_line, stop_of, front_of, Walked}
-use Rattle.targetless.proofs.TextLaws.{broken-byte, taken-byte, taken-lf, taken-cr, further-none-at}
-use Rattle.targetless.proofs.VerdictLaws.{tells-nothing, tells-refused, tells-from, tells-last, tells-over, tells-cr, run_none, follows-refused, follows-byte, follows-lf, further-lf-refused, follows-lf-refused, line-last, follows-end, follows-cr}
-use Rattle.targetless.proofs.RunLaws.{word-other, dead-unlabelled}
-use Rattle.targetless.proofs.SizeLaws.{ended, sized-lf, sized-cr, sized-none, sized-refused}
+use Rattle.targetless.specs.Verdict.{run, is_further, Blank, Shared, judged_of, joined_of, Tells, Follows, ends_line, is_lone, over_of, lone_of, everything, nothing}
+use Rattle.targetless.specs.Runs.{escapable_of, is_dead, destination_run, label_run, label_stop, plain_run, plain_stop, quoted_run, quoted_stop, closed_run, closed_stop, line_stop, ended, StateTells}
+use Rattle.targetless.specs.Walk.{last_of, over_line, stop_of, Lined, Walked}
+use Rattle.targetless.proofs.TextLaws.{first-is, line_refused, line_taken, line-here, cr-refused, crlf-here}
+use Rattle.targetless.proofs.BlankLaws.{blanks-more, blanks-none}
+use Rattle.targetless.proofs.VerdictLaws.{tells-nothing, tells-refused, tells-from, tells-last, tells-over, tells-cr, run_none, lf-refused, follows-byte, follows-lf, follows-none, follows-cr, further-end, line-last}
+use Rattle.targetless.proofs.RunLaws.{starts_is, word-other, dead-unlabelled}
+use Rattle.targetless.proofs.SizeLaws.{sized-lf, sized-cr, sized-none, sized-refused}
 use Rattle.targetless.proofs.StateLaws.{text-ended}
-use Rattle.targetless.proofs.LineTargetLaws.{blanks-more, blanks-none, line-lone, line-front}
+use Rattle.targetless.proofs.LineTargetLaws.{line-lone, line-front}
 
 -- Where no further line follows.
+module _ (s : List ℕ) (h : not_line_ending_of s ≡ Some 0) (f : (indent : List ℕ) → Blank indent → further_of indent s ≡ None) where
+  -- nothing is told where a verdict tells nothing of that
+  tells-alone : (g : List ℕ → Bool) (v : Verdict) → is_lone v ≡ false → Tells g v s
+  tells-alone g v a =
+      record {
+        told = λ indent n blank e j.
+            let y : further_of indent (drop n s) ≡ None = ap (λ (k : ℕ). further_of indent (drop k s)) (taken_is n 0 (sym e ∙ h)) ∙ f indent blank in
+            absurd (false≢true (sym (ap (λ (x : Option (ℕ × ℕ)). judged_of v (is_further x) (length indent)) y ∙ a) ∙ j));
+      }
 
--- nothing is told where a verdict tells nothing of that
-tells-alone : (g : List ℕ → Bool) (v : Verdict) (s : List ℕ) → is_lone v ≡ false → not_line_ending_of s ≡ Some 0 → ((indent : List ℕ) → Blank indent → further_of indent s ≡ None) → Tells g v s
-tells-alone g v s a h f indent n blank e j =
-    let z : n ≡ 0 = taken_is n 0 (sym e ∙ h) in
-    let y : further_of indent (drop n s) ≡ None = ap (λ (k : ℕ). further_of indent (drop k s)) z ∙ f indent blank in
-    absurd (false≢true (sym (ap (λ (x : Option (ℕ × ℕ)). judged_of v (is_further x) (length indent)) y ∙ a) ∙ j))
+  -- all verdicts
+  last-tells : StateTells last_of s
+  last-tells =
+      record {
+        destination = tells-last 10 (escapable_of false) (λ t. false) true false s h f;
+        label = tells-last 0x60 (escapable_of false) label_stop true true s h f;
+        plain = tells-last 0x3A (escapable_of true) plain_stop true true s h f;
+        quoted = tells-last 0x60 (escapable_of true) quoted_stop true true s h f;
+        closed = tells-last 0x60 (escapable_of true) closed_stop false false s h f;
+        target = tells-alone is_dead (lone_of everything false) refl;
+        size = sized-none s h f;
+      }
 
--- all verdicts
-last-tells : (s : List ℕ) → not_line_ending_of s ≡ Some 0 → ((indent : List ℕ) → Blank indent → further_of indent s ≡ None) → StateTells last_of s
-last-tells s h f = (
-  tells-last 10 (escapable_of false) (λ t. false) true false s h f,
-  tells-last 0x60 (escapable_of false) label_stop true true s h f,
-  tells-last 0x3A (escapable_of true) plain_stop true true s h f,
-  tells-last 0x60 (escapable_of true) quoted_stop true true s h f,
-  tells-last 0x60 (escapable_of true) closed_stop false false s h f,
-  tells-alone is_dead (lone_of everything false) s refl h f,
-  sized-none s h f,
-)
+  lined-last : Lined (Some 0) s
+  lined-last =
+      let z : length s - 0 ≡ length s = omega arith in
+      ((0, h), omega arith, subst⁻¹ (λ (l : List ℕ). Follows l s) (ap (λ (k : ℕ). drop k s) z ∙ drop-length s) (follows-none s h f))
 
--- the text's end, and behind it
-end-tells : (s : List ℕ) (i : ℕ) → length s ≤ i → StateTells last_of (drop i s)
-unfolding line_from
-end-tells s i h =
-    last-tells (drop i s) (ap (line_from 0) (drop-end s i h)) (λ indent blank. further-none-at indent (drop i s) (ending-none (drop i s) (omega (arith, length-drop i s))))
+-- at the text's end
+pub walked_end : Walked (record { near = last_of; far = last_of; stop = nothing; front = nothing; next = Some 0 }) []
+walked_end =
+    let near = last-tells [] line-last (λ indent blank. further-end indent) in
+    record {
+      near = near;
+      far = near;
+      stop = tells-nothing line_stop [];
+      front = tells-nothing is_dead _;
+      next = lined-last [] line-last (λ indent blank. further-end indent);
+    }
 
-pub walked_end :
-    (s : List ℕ) (a b : State) (u v : Verdict) → a ≡ last_of → b ≡ last_of → u ≡ nothing → v ≡ nothing
-    → Walked (record { near = a; far = b; stop = u; front = v; next = length s; broken = false }) (length s) s
-walked_end s a b u v e f g j = (
-  subst⁻¹ (λ (x : State). StateTells x (drop (length s) s)) e (end-tells s (length s) (omega arith)),
-  subst⁻¹ (λ (x : State). StateTells x (drop (length s + 1) s)) f (end-tells s (length s + 1) (omega arith)),
-  subst⁻¹ (λ (x : Verdict). Tells line_stop x (drop (length s) s)) g (tells-nothing line_stop (drop (length s) s)),
-  subst⁻¹ (λ (x : Verdict). Tells is_dead x (drop (length s + space0_of (drop (length s) s)) s)) j (tells-nothing is_dead (drop (length s + space0_of (drop (length s) s)) s)),
-  omega arith,
-  follows-end s,
-  λ g. absurd (false≢true g),
-  λ g. (0, line-last s),
-)
+-- At a byte of a line.
+module _ (b : ℕ) (l : List ℕ) where
+  lined-byte : (next : Option ℕ) → ends_line b ≡ false → Lined next l → Lined next (b ∷ l)
+  lined-byte None e w = line_refused b l e w
+  lined-byte (Some n) e w =
+      let y : suc (length l) - n ≡ suc (length l - n) = omega (arith, w.1) in
+      ((_, line_taken b l e w.0.0 w.0.1), omega (arith, w.1), subst⁻¹ (λ (k : ℕ). Follows (drop k (b ∷ l)) (b ∷ l)) y (follows-byte (drop (length l - n) l) b l e w.2))
+
+  -- The target behind the blanks: it is the place's own if no blank stands there, and else that of the next place.
+  front-here : (v : Verdict) → is_space b ≡ false → Tells is_dead v (b ∷ l) → Tells is_dead v (drop (space0_of (b ∷ l)) (b ∷ l))
+  front-here v e t = subst⁻¹ (λ (k : ℕ). Tells is_dead v (drop k (b ∷ l))) (blanks-none b l e) t
+
+  front-blank : (v : Verdict) → is_space b ≡ true → Tells is_dead v (drop (space0_of l) l) → Tells is_dead v (drop (space0_of (b ∷ l)) (b ∷ l))
+  front-blank v e t = subst⁻¹ (λ (k : ℕ). Tells is_dead v (drop k (b ∷ l))) (blanks-more b l e) t
+
+  module _ (w : Walk) (e : ends_line b ≡ false) (told : Walked w l) (a : State) (near : StateTells a (b ∷ l)) where
+    blank-walked : is_space b ≡ true → Walked (record { near = a; far = w.near; stop = nothing; front = w.front; next = w.next }) (b ∷ l)
+    blank-walked f = record { near = near; far = told.near; stop = tells-nothing line_stop (b ∷ l); front = front-blank w.front f told.front; next = lined-byte w.next e told.next }
+
+    byte-walked : is_space b ≡ false → Walked (record { near = a; far = w.near; stop = nothing; front = a.target; next = w.next }) (b ∷ l)
+    byte-walked f = record { near = near; far = told.near; stop = tells-nothing line_stop (b ∷ l); front = front-here a.target f near.target; next = lined-byte w.next e told.next }
+
+-- the same by the text's first byte
+module _ (s : List ℕ) (w : Walk) (a : State) where
+  pub walked-blank :
+      0 < length s → ends_line (get_or s 0 0) ≡ false → Walked w (drop 1 s) → StateTells a s → is_space (get_or s 0 0) ≡ true
+      → Walked (record { near = a; far = w.near; stop = nothing; front = w.front; next = w.next }) s
+  walked-blank h e told near f =
+      let is = first-is s (get_or s 0 0) h refl in
+      subst⁻¹ (Walked (record { near = a; far = w.near; stop = nothing; front = w.front; next = w.next })) is
+      (blank-walked (get_or s 0 0) (drop 1 s) w e told a (subst (StateTells a) is near) f)
+
+  pub walked-byte :
+      0 < length s → ends_line (get_or s 0 0) ≡ false → Walked w (drop 1 s) → StateTells a s → is_space (get_or s 0 0) ≡ false
+      → Walked (record { near = a; far = w.near; stop = nothing; front = a.target; next = w.next }) s
+  walked-byte h e told near f =
+      let is = first-is s (get_or s 0 0) h refl in
+      subst⁻¹ (Walked (record { near = a; far = w.near; stop = nothing; front = a.target; next = w.next })) is
+      (byte-walked (get_or s 0 0) (drop 1 s) w e told a (subst (StateTells a) is near) f)
 
 -- At LF.
 
@@ -87,194 +124,131 @@ empty-dead : (t : List ℕ) → t ≡ [] → destination_run t ≡ true → is_d
 empty-dead t e f = absurd (false≢true (sym (ap destination_run e ∙ run_none 10 (escapable_of false) (λ t. false) true false) ∙ f))
 
 -- a target that begins at a line's end is a destination
-ended-dead : (s : List ℕ) (i : ℕ) (v : Verdict) → ends_line (get_or s i 0) ≡ true → Tells destination_run v (drop i s) → Tells is_dead v (drop i s)
-ended-dead s i v e t =
-    tells-from destination_run is_dead v (drop i s) t
+ended-dead : (v : Verdict) (c : ℕ) (l : List ℕ) → ends_line c ≡ true → Tells destination_run v (c ∷ l) → Tells is_dead v (c ∷ l)
+ended-dead v c l e t =
+    tells-from destination_run is_dead v (c ∷ l) t
     (λ indent n h f.
     ⊎_elim
-    (λ z. empty-dead (joined_of indent n (drop i s)) z f)
-    (λ z. space-dead (joined_of indent n (drop i s)) z.0 z.1 f)
-    (text-ended indent s i n e h))
+    (λ z. empty-dead (joined_of indent n (c ∷ l)) z f)
+    (λ z. space-dead (joined_of indent n (c ∷ l)) z.0 z.1 f)
+    (text-ended indent c l n e h))
 
--- The target behind the blanks at a place: it is the place's own if no blank stands there, ..
-module _ (s : List ℕ) (i : ℕ) (v : Verdict) (h : i < length s) where
-  front-here : (u : Verdict) → is_space (get_or s i 0) ≡ false → Tells is_dead u (drop i s) → Tells is_dead u (drop (i + space0_of (drop i s)) s)
-  front-here u e t =
-      let z : i ≡ i + space0_of (drop i s) = omega (arith, ap space0_of (drop-next s i h) ∙ blanks-none (get_or s i 0) (drop (i + 1) s) e) in
-      subst (λ (k : ℕ). Tells is_dead u (drop k s)) z t
-
-  -- .. and else that of the next place
-  front-blank : is_space (get_or s i 0) ≡ true → Tells is_dead v (drop (i + 1 + space0_of (drop (i + 1) s)) s) → Tells is_dead v (drop (i + space0_of (drop i s)) s)
-  front-blank e t =
-      let z : i + 1 + space0_of (drop (i + 1) s) ≡ i + space0_of (drop i s) = omega (arith, ap space0_of (drop-next s i h) ∙ blanks-more (get_or s i 0) (drop (i + 1) s) e) in
-      subst (λ (k : ℕ). Tells is_dead v (drop k s)) z t
-
-  pub front_by :
-      (u : Verdict) → Tells is_dead v (drop (i + 1 + space0_of (drop (i + 1) s)) s) → Tells is_dead u (drop i s)
-      → Tells is_dead (front_of (get_or s i 0) v u) (drop (i + space0_of (drop i s)) s)
-  front_by u t k = by-test (λ (x : Verdict). Tells is_dead x (drop (i + space0_of (drop i s)) s)) (is_space (get_or s i 0)) v u (λ e. front-blank e t) (λ e. front-here u e k)
-
--- LF and CR are no blanks
-lf-other : (b : ℕ) → b ≡ 10 → is_space b ≡ false
-unfolding is_space
-lf-other b e = ap is_space e
-
-cr-other : (b : ℕ) → b ≡ 13 → is_space b ≡ false
-unfolding is_space
-cr-other b e = ap is_space e
-
-module _ (s : List ℕ) (i : ℕ) (w : Walk) (a : State) (h : i < length s) (e : get_or s i 0 ≡ 10) (told : Walked w (i + 1) s) where
+module _ (w : Walk) (l : List ℕ) (told : Walked w l) where
   -- before a line that is refused
-  pub walked-lf-refused :
-      (u v : Verdict) → w.broken ≡ true → a ≡ last_of → v ≡ nothing
-      → Walked (record { near = a; far = w.near; stop = u; front = v; next = length s; broken = false }) i s
-  walked-lf-refused u v f g k =
-      let refused = told.6 f in (
-        subst⁻¹ (λ (x : State). StateTells x (drop i s)) g (last-tells (drop i s) (taken-lf s i h e) (further-lf-refused s i h e refused)),
-        told.0,
-        line-lone s i (ap ends_line e) (further-lf-refused s i h e refused) u,
-        subst⁻¹ (λ (x : Verdict). Tells is_dead x (drop (i + space0_of (drop i s)) s)) k (tells-nothing is_dead (drop (i + space0_of (drop i s)) s)),
-        omega arith,
-        follows-lf-refused s i h e refused,
-        λ k. absurd (false≢true k),
-        λ k. (0, taken-lf s i h e),
-      )
+  pub walked-alone : w.next ≡ None → Walked (record { near = last_of; far = w.near; stop = everything; front = nothing; next = Some 0 }) (10 ∷ l)
+  walked-alone f =
+      let refused = subst (λ (x : Option ℕ). Lined x l) f told.next in
+      let none : (indent : List ℕ) → Blank indent → further_of indent (10 ∷ l) ≡ None = λ indent blank. lf-refused indent l blank refused in
+      record {
+        near = last-tells (10 ∷ l) (line-here l) none;
+        far = told.near;
+        stop = line-lone 10 l refl none everything;
+        front = tells-nothing is_dead _;
+        next = lined-last (10 ∷ l) (line-here l) none;
+      }
 
   -- before one that is not
-  module _ (k m : ℕ) (line : not_line_ending_of (drop (i + 1) s) ≡ Some m) (same : Shared k (drop (i + 1) s) (drop w.next s)) where
-    over-destination : Tells destination_run (over_of w.near.destination false k) (drop i s)
-    over-destination =
-        tells-over 10 (escapable_of false) (λ t. false) true false (λ x. omega (arith, x)) (λ x. omega (arith, x))
-        w.near.destination s i w.next k m h e line told.5 same told.0.0
+  module _ (n k : ℕ) (f : w.next ≡ Some n) (same : Shared k l (drop (length l - n) l)) where
+    line : Lined (Some n) l
+    line = subst (λ (x : Option ℕ). Lined x l) f told.next
 
-    over-label : Tells label_run (over_of w.near.label true k) (drop i s)
-    over-label =
-        tells-over 0x60 (escapable_of false) label_stop true true (λ x. omega (arith, x)) (λ x. omega (arith, x))
-        w.near.label s i w.next k m h e line told.5 same told.0.1
+    over-tells : (stop : ℕ) (ok : ℕ → Bool) (at : List ℕ → Bool) (wrong end : Bool) → (stop ≡ 0x20 → ⊥) → (stop ≡ 9 → ⊥) → (v : Verdict) → Tells (run stop ok at wrong end) v l → Tells (run stop ok at wrong end) (over_of v end k) (10 ∷ l)
+    over-tells stop ok at wrong end space tab v t = tells-over stop ok at wrong end space tab v l (drop (length l - n) l) k line.0.0 line.0.1 line.2 same t
 
-    over_plain : Tells plain_run (over_of w.near.plain true k) (drop i s)
-    over_plain =
-        tells-over 0x3A (escapable_of true) plain_stop true true (λ x. omega (arith, x)) (λ x. omega (arith, x))
-        w.near.plain s i w.next k m h e line told.5 same told.0.2
+    near-tells : StateTells (over_line w.near k (ended w.near.size)) (10 ∷ l)
+    near-tells =
+        let p = told.near in
+        let d = over-tells 10 (escapable_of false) (λ t. false) true false (λ x. omega (arith, x)) (λ x. omega (arith, x)) w.near.destination p.destination in
+        record {
+          destination = d;
+          label = over-tells 0x60 (escapable_of false) label_stop true true (λ x. omega (arith, x)) (λ x. omega (arith, x)) w.near.label p.label;
+          plain = over-tells 0x3A (escapable_of true) plain_stop true true (λ x. omega (arith, x)) (λ x. omega (arith, x)) w.near.plain p.plain;
+          quoted = over-tells 0x60 (escapable_of true) quoted_stop true true (λ x. omega (arith, x)) (λ x. omega (arith, x)) w.near.quoted p.quoted;
+          closed = over-tells 0x60 (escapable_of true) closed_stop false false (λ x. omega (arith, x)) (λ x. omega (arith, x)) w.near.closed p.closed;
+          target = ended-dead (over_of w.near.destination false k) 10 l refl d;
+          size = sized-lf w.near.size l line.0.0 line.0.1 p.size;
+        }
 
-    over-quoted : Tells quoted_run (over_of w.near.quoted true k) (drop i s)
-    over-quoted =
-        tells-over 0x60 (escapable_of true) quoted_stop true true (λ x. omega (arith, x)) (λ x. omega (arith, x))
-        w.near.quoted s i w.next k m h e line told.5 same told.0.3
+    pub walked-lf :
+        (a : State) (u : Verdict) → a ≡ over_line w.near k (ended w.near.size) → u ≡ stop_of (space0_of l) k a.destination w.front
+        → Walked (record { near = a; far = w.near; stop = u; front = a.target; next = Some (length l) }) (10 ∷ l)
+    unfolding is_space
+    walked-lf a u g j =
+        let near = subst⁻¹ (λ (x : State). StateTells x (10 ∷ l)) g near-tells in
+        let one : suc (length l) - length l ≡ 1 = omega arith in
+        record {
+          near = near;
+          far = told.near;
+          stop = subst⁻¹ (λ (x : Verdict). Tells line_stop x (10 ∷ l)) j (line-front l line.0.0 line.0.1 (drop (length l - n) l) k line.2 same a.destination w.front near.destination told.front);
+          front = front-here 10 l a.target refl near.target;
+          next = ((0, line-here l), omega arith, subst⁻¹ (λ (i : ℕ). Follows (drop i (10 ∷ l)) (10 ∷ l)) one (follows-lf l line.0.0 line.0.1));
+        }
 
-    over_closed : Tells closed_run (over_of w.near.closed false k) (drop i s)
-    over_closed =
-        tells-over 0x60 (escapable_of true) closed_stop false false (λ x. omega (arith, x)) (λ x. omega (arith, x))
-        w.near.closed s i w.next k m h e line told.5 same told.0.4
+-- At CR, before LF.
+lined-cr : (next : Option ℕ) (l : List ℕ) → Lined next (10 ∷ l) → Lined next (13 ∷ 10 ∷ l)
+lined-cr None l w = absurd (refused-taken 0 (sym w ∙ line-here l))
+lined-cr (Some n) l w =
+    let y : suc (suc (length l)) - n ≡ suc (suc (length l) - n) = omega (arith, w.1) in
+    ((0, crlf-here l), omega (arith, w.1), subst⁻¹ (λ (k : ℕ). Follows (drop k (13 ∷ 10 ∷ l)) (13 ∷ 10 ∷ l)) y (follows-cr (drop (suc (length l) - n) (10 ∷ l)) l w.2))
 
-    over-tells : StateTells (over_line w.near k (ended w.near.size)) (drop i s)
-    over-tells = (
-      over-destination,
-      over-label,
-      over_plain,
-      over-quoted,
-      over_closed,
-      ended-dead s i (over_of w.near.destination false k) (ap ends_line e) over-destination,
-      sized-lf s i h w.near.size e m line told.0.6,
-    )
+crlf-walked : (w : Walk) (l : List ℕ) → Walked w (10 ∷ l) → Walked (record w { far = w.near }) (13 ∷ 10 ∷ l)
+unfolding is_space
+crlf-walked w l told =
+    let p = told.near in
+    record {
+      near = record {
+        destination = tells-cr destination_run w.near.destination l p.destination;
+        label = tells-cr label_run w.near.label l p.label;
+        plain = tells-cr plain_run w.near.plain l p.plain;
+        quoted = tells-cr quoted_run w.near.quoted l p.quoted;
+        closed = tells-cr closed_run w.near.closed l p.closed;
+        target = tells-cr is_dead w.near.target l p.target;
+        size = sized-cr w.near.size l p.size;
+      };
+      far = p;
+      stop = tells-cr line_stop w.stop l told.stop;
+      front = front-here 13 (10 ∷ l) w.front refl (tells-cr is_dead w.front l (subst (λ (k : ℕ). Tells is_dead w.front (drop k (10 ∷ l))) (blanks-none 10 l refl) told.front));
+      next = lined-cr w.next l told.next;
+    }
 
-  pub walked-lf :
-      (k : ℕ) (u : Verdict) → w.broken ≡ false → Shared k (drop (i + 1) s) (drop w.next s) → a ≡ over_line w.near k (ended w.near.size)
-      → u ≡ stop_of (space0_of (drop (i + 1) s)) k a.destination w.front
-      → Walked (record { near = a; far = w.near; stop = u; front = a.target; next = i + 1; broken = false }) i s
-  walked-lf k u f same g j =
-      let line = told.7 f in
-      let near = subst⁻¹ (λ (x : State). StateTells x (drop i s)) g (over-tells k line.0 line.1 same) in (
-        near,
-        told.0,
-        subst⁻¹ (λ (x : Verdict). Tells line_stop x (drop i s)) j (line-front s i h e line.0 line.1 w.next k told.5 same a.destination w.front near.0 told.3),
-        front-here s i a.target h a.target (lf-other (get_or s i 0) e) near.5,
-        omega arith,
-        follows-lf s i h e line.0 line.1,
-        λ j. absurd (false≢true j),
-        λ j. (0, taken-lf s i h e),
-      )
+pub walked-cr : (w : Walk) (l : List ℕ) → Walked w l → starts_with (10 ∷ []) l ≡ true → Walked (record w { far = w.near }) (13 ∷ l)
+walked-cr w l told e =
+    let is = starts_is (10 ∷ []) l e in
+    subst⁻¹ (λ (r : List ℕ). Walked (record w { far = w.near }) (13 ∷ r)) is (crlf-walked w (drop 1 l) (subst (Walked w) is told))
 
--- At CR.
-module _ (s : List ℕ) (i : ℕ) (w : Walk) (told : Walked w (i + 1) s) where
-  -- LF follows
-  module _ (h : i + 1 < length s) (e : get_or s i 0 ≡ 13) (f : get_or s (i + 1) 0 ≡ 10) where
-    front-lf : i + 1 + space0_of (drop (i + 1) s) ≡ i + 1
-    front-lf = omega (arith, ap space0_of (drop-next s (i + 1) h) ∙ blanks-none (get_or s (i + 1) 0) (drop (i + 1 + 1) s) (lf-other (get_or s (i + 1) 0) f))
+-- Before another byte the line is refused.
+pub walked-refused :
+    (w : Walk) (l : List ℕ) → Walked w l → starts_with (10 ∷ []) l ≡ false
+    → Walked (record { near = w.near; far = w.near; stop = nothing; front = nothing; next = None }) (13 ∷ l)
+walked-refused w l told h =
+    let e = cr-refused l h in
+    record {
+      near = record {
+        destination = tells-refused destination_run w.near.destination (13 ∷ l) e;
+        label = tells-refused label_run w.near.label (13 ∷ l) e;
+        plain = tells-refused plain_run w.near.plain (13 ∷ l) e;
+        quoted = tells-refused quoted_run w.near.quoted (13 ∷ l) e;
+        closed = tells-refused closed_run w.near.closed (13 ∷ l) e;
+        target = tells-refused is_dead w.near.target (13 ∷ l) e;
+        size = sized-refused w.near.size 13 l e told.near.size;
+      };
+      far = told.near;
+      stop = tells-nothing line_stop (13 ∷ l);
+      front = tells-nothing is_dead _;
+      next = e;
+    }
 
-    pub walked-cr : Walked (record { near = w.near; far = w.near; stop = w.stop; front = w.front; next = w.next; broken = w.broken }) i s
-    walked-cr =
-        let near = told.0 in (
-          (
-            tells-cr s i h e f destination_run w.near.destination near.0,
-            tells-cr s i h e f label_run w.near.label near.1,
-            tells-cr s i h e f plain_run w.near.plain near.2,
-            tells-cr s i h e f quoted_run w.near.quoted near.3,
-            tells-cr s i h e f closed_run w.near.closed near.4,
-            tells-cr s i h e f is_dead w.near.target near.5,
-            sized-cr s i h e f w.near.size near.6,
-          ),
-          near,
-          tells-cr s i h e f line_stop w.stop told.2,
-          front-here s i w.front (omega arith) w.front (cr-other (get_or s i 0) e)
-              (tells-cr s i h e f is_dead w.front (subst (λ (k : ℕ). Tells is_dead w.front (drop k s)) front-lf told.3)),
-          told.4,
-          follows-cr s i h e f w.next s told.5,
-          λ g. absurd (refused-taken 0 (sym (told.6 g) ∙ taken-lf s (i + 1) h f)),
-          λ g. (0, taken-cr s i h e f),
-        )
+-- What is kept at place i is kept of the text behind the byte before it.
+module _ (w : Walk) (s : List ℕ) (i : ℕ) (h : 0 < i) (told : Walked w (drop i s)) where
+  pub walked-rest : Walked w (from s (i - 1 + 1))
+  walked-rest =
+      let z : i - 1 + 1 ≡ i = omega arith in
+      subst⁻¹ (Walked w) (part-from s (i - 1 + 1) ∙ ap (λ (k : ℕ). drop k s) z) told
 
-  -- the line is refused
-  pub walked-broken :
-      (u v : Verdict) → v ≡ nothing → not_line_ending_of (drop i s) ≡ None
-      → Walked (record { near = w.near; far = w.near; stop = u; front = v; next = length s; broken = true }) i s
-  walked-broken u v q e = (
-    (
-      tells-refused destination_run w.near.destination (drop i s) e,
-      tells-refused label_run w.near.label (drop i s) e,
-      tells-refused plain_run w.near.plain (drop i s) e,
-      tells-refused quoted_run w.near.quoted (drop i s) e,
-      tells-refused closed_run w.near.closed (drop i s) e,
-      tells-refused is_dead w.near.target (drop i s) e,
-      sized-refused (drop i s) w.near.size (omega (arith, told.0.6.0, length-drop i s, length-drop (i + 1) s)) (omega (arith, told.0.6.1, length-drop i s, length-drop (i + 1) s)) e,
-    ),
-    told.0,
-    tells-refused line_stop u (drop i s) e,
-    subst⁻¹ (λ (x : Verdict). Tells is_dead x (drop (i + space0_of (drop i s)) s)) q (tells-nothing is_dead (drop (i + space0_of (drop i s)) s)),
-    omega arith,
-    follows-refused (length s) s (drop i s) e,
-    λ g. e,
-    λ g. absurd (true≢false g),
-  )
-
-  -- At any byte of a line.
-  pub walked-byte :
-      (a : State) (u v : Verdict) → i < length s → ends_line (get_or s i 0) ≡ false → StateTells a (drop i s) → u ≡ nothing → Tells is_dead v (drop (i + space0_of (drop i s)) s)
-      → Walked (record { near = a; far = w.near; stop = u; front = v; next = w.next; broken = w.broken }) i s
-  walked-byte a u v h e near p q = (
-    near,
-    told.0,
-    subst⁻¹ (λ (x : Verdict). Tells line_stop x (drop i s)) p (tells-nothing line_stop (drop i s)),
-    q,
-    told.4,
-    follows-byte w.next s s i h e told.5,
-    λ g. broken-byte s i h e (told.6 g),
-    λ g.
-        let line = told.7 g in
-        (1 + line.0, taken-byte s i line.0 h e line.1),
-  )
-
-  -- what is kept of the place behind the next one
-  pub walked-far : StateTells w.far (drop (i + 2) s)
-  walked-far =
-      let z : i + 1 + 1 ≡ i + 2 = omega arith in
-      subst (λ (k : ℕ). StateTells w.far (drop k s)) z told.1
-
--- what is kept at a place is kept behind the one before it
-pub walked_next : (w : Walk) (i : ℕ) (s : List ℕ) → 0 < i → Walked w i s → Walked w (i - 1 + 1) s
-walked_next w i s h told =
-    let z : i - 1 + 1 ≡ i = omega arith in
-    subst⁻¹ (λ (k : ℕ). Walked w k s) z told
+  pub walked-behind : Walked w (drop 1 (from s (i - 1)))
+  walked-behind =
+      let z : i - 1 + 1 ≡ i = omega arith in
+      subst⁻¹ (Walked w) (ap (drop 1) (part-from s (i - 1)) ∙ drop-drop 1 (i - 1) s ∙ ap (λ (k : ℕ). drop k s) z) told
 
 -- Marks.
 

@@ -2,7 +2,7 @@
 -- the next line, or with the text.
 -- Assumes nothing.
 use Rattle.std.proofs.Common.{Option, Some, None}
-use Prim.Native.Nat.{ℕ, ◌-◌, ◌<◌}
+use Prim.Native.Nat.{ℕ, ◌-◌, ◌<◌, ◌≤◌}
 use native.Mathlib.Omega.{arith}
 use mathlib.Core.Path.{◌≡◌, refl, sym, ap, subst⁻¹, ◌∙◌}
 use mathlib.Core.List.{List, [], ◌∷◌, ◌++◌, append-nil}
@@ -10,7 +10,8 @@ use mathlib.Core.Bool.{Bool, true, false, ◌&&◌}
 use mathlib.Core.Logic.{⊎_elim}
 use lib.Dec.{eqb, leb, ltb}
 use lib.ListN.{length, get_or, drop, take, take-append-drop, get_or-append}
-use borrow.Author.Tests.{eqb-true}
+use borrow.Author.Tests.{eqb-true, eq-eqb, ne_eqb, lt-ltb, le-ltb}
+use Rattle.std.proofs.lemmas.Bool.{cases_Bool}
 use Rattle.rst_bytes.specs.Line.{line_ending_of, not_line_ending_of}
 use Rattle.rst_bytes.specs.Word.{is_ascii_word, word_of}
 use Rattle.rst_bytes.proofs.Lists.{drop-end}
@@ -22,7 +23,6 @@ use Rattle.restructured_text.specs.Block.{further_of, Joining, lines_of}
 use Rattle.restructured_text.proofs.BlockLaws.{lines_end, lines-further}
 use Rattle.targetless.specs.Verdict.{joined_of}
 use Rattle.targetless.specs.Runs.{word_labelled}
-use Rattle.targetless.proofs.RunLaws.{either}
 
 -- no word goes on into this text
 abbrev Ended : List ℕ → Type 0
@@ -64,8 +64,8 @@ ending-ended (b ∷ l) j e =
     (λ f. ⊎_elim
     (λ g. subst⁻¹ (λ (c : ℕ). Ended (c ∷ l)) (eqb-true b 13 g) (omega arith, refl))
     (λ g. absurd (refused-taken j (sym (picks_second _ _ _ f ∙ picks_second _ _ _ g) ∙ e)))
-    (either (eqb b 13)))
-    (either (eqb b 10))
+    (cases_Bool (eqb b 13)))
+    (cases_Bool (eqb b 10))
 
 line-ended : (s : List ℕ) (n : ℕ) → not_line_ending_of s ≡ Some n → Ended (drop n s)
 line-ended s n e =
@@ -89,3 +89,25 @@ word-joined indent s n e f =
     ∙ sym (labelled-before (take n s) (drop n s) (line-ended s n e))
     ∙ ap word_labelled (take-append-drop n s)
     ∙ f
+
+-- A word of w bytes: its last bytes and its length tell.
+module _ (v : List ℕ) (w : ℕ) (e : w ≡ word_of v) where
+  labelled-is : labelled v w ≡ word_labelled v
+  unfolding word_labelled
+  labelled-is = ap (labelled v) e
+
+  pub labelled-short : w < 2 → false ≡ word_labelled v
+  labelled-short h = sym (simp (le-ltb 1 w (omega arith))) ∙ labelled-is
+
+  module _ (h : 2 ≤ w) where
+    pub last_within : w - 1 < length v
+    last_within = omega (arith, e, word-within v)
+
+    pub labelled-not : (get_or v (w - 1) 0 ≡ 0x5F → ⊥) → false ≡ word_labelled v
+    labelled-not f = sym (simp (lt-ltb 1 w (omega arith), ne_eqb _ _ f)) ∙ labelled-is
+
+    pub labelled-two : get_or v (w - 2) 0 ≡ 0x5F → get_or v (w - 1) 0 ≡ 0x5F → leb w 1001 ≡ word_labelled v
+    labelled-two f g = sym (simp (lt-ltb 1 w (omega arith), eq-eqb _ _ g, eq-eqb _ _ f)) ∙ labelled-is
+
+    pub labelled-one : (get_or v (w - 2) 0 ≡ 0x5F → ⊥) → get_or v (w - 1) 0 ≡ 0x5F → leb w 1000 ≡ word_labelled v
+    labelled-one f g = sym (simp (lt-ltb 1 w (omega arith), eq-eqb _ _ g, ne_eqb _ _ f)) ∙ labelled-is

@@ -13,8 +13,8 @@ use Rattle.restructured_text.specs.Label.{label_len_max}
 use Rattle.restructured_text.specs.Strings.{none, part}
 use Rattle.restructured_text.specs.Target.{named_of}
 use Rattle.restructured_text.specs.Transform.{is_destination_escapable, kept_of}
-use Rattle.targetless.specs.declared.Size.{Size}
-use Rattle.targetless.specs.declared.State.{State}
+use Rattle.targetless.specs.declared.state.Size.{Size}
+use Rattle.targetless.specs.declared.state.State.{State}
 use Rattle.targetless.specs.Verdict.{joined_of, Blank, everything, nothing, lone_of, Tells, run}
 
 -- the target that stands here, an alias's or a destination, is refused
@@ -57,17 +57,24 @@ is_long None = true
 abbrev pub no_label : List ℕ → Bool
 no_label s = label_run s || is_long (backticked_of false (0x60 ∷ s))
 
+-- n bytes more
+abbrev pub more : Size → ℕ → Size
+more z n = record z { kept = z.kept + n }
+
+-- a line's end more
+abbrev pub ended : Size → Size
+ended z = record { kept = z.kept + 1; ends = z.ends + 1 }
+
 -- a label that goes on with this text and that a backtick closes has so many bytes up to it, for an indent that has m bytes with three spaces
 abbrev pub SizeOf : Size → ℕ → List ℕ → Type 0
 SizeOf z m text =
     (k : ℕ) → taking 0x60 0x60 false 0 text ≡ Some k → starts_with (0x60 ∷ []) (drop k text) ≡ true → k + z.ends * m ≡ z.kept
 
 -- the same of each text that begins with s
-abbrev pub Sized : Size → List ℕ → Type 0
-Sized z s =
-    (z.kept ≤ length s)
-    × (z.ends ≤ length s)
-    × ((indent : List ℕ) (n : ℕ) → Blank indent → not_line_ending_of s ≡ Some n → SizeOf z (length indent + 3) (joined_of indent n s))
+pub record Sized (z : Size) (s : List ℕ) : Type 0 where
+  pub kept : z.kept ≤ length s
+  pub ends : z.ends ≤ length s
+  pub is : (indent : List ℕ) (n : ℕ) → Blank indent → not_line_ending_of s ≡ Some n → SizeOf z (length indent + 3) (joined_of indent n s)
 
 -- this colon ends no name, or the target behind it is refused
 abbrev pub plain_stop : List ℕ → Bool
@@ -98,15 +105,14 @@ abbrev pub closed_run : List ℕ → Bool
 closed_run s = run 0x60 (escapable_of true) closed_stop false false s
 
 -- the verdicts of a state are true of the texts that begin with s
-abbrev pub StateTells : State → List ℕ → Type 0
-StateTells x s =
-    Tells destination_run x.destination s
-    × Tells label_run x.label s
-    × Tells plain_run x.plain s
-    × Tells quoted_run x.quoted s
-    × Tells closed_run x.closed s
-    × Tells is_dead x.target s
-    × Sized x.size s
+pub record StateTells (x : State) (s : List ℕ) : Type 0 where
+  pub destination : Tells destination_run x.destination s
+  pub label : Tells label_run x.label s
+  pub plain : Tells plain_run x.plain s
+  pub quoted : Tells quoted_run x.quoted s
+  pub closed : Tells closed_run x.closed s
+  pub target : Tells is_dead x.target s
+  pub size : Sized x.size s
 
 -- at a backslash that refuses what it stands in
 abbrev pub wrong_of : State
@@ -136,23 +142,5 @@ ended_of near size =
 
 -- at a backslash before a byte that it may stand before in a name, and in a destination too
 abbrev pub paired_of : State → Bool → Size → State
-paired_of far true size =
-    record {
-      destination = far.destination;
-      label = far.label;
-      plain = far.plain;
-      quoted = far.quoted;
-      closed = far.closed;
-      target = far.destination;
-      size = size;
-    }
-paired_of far false size =
-    record {
-      destination = everything;
-      label = everything;
-      plain = far.plain;
-      quoted = far.quoted;
-      closed = far.closed;
-      target = everything;
-      size = size;
-    }
+paired_of far true size = record far { target = far.destination; size = size }
+paired_of far false size = record far { destination = everything; label = everything; target = everything; size = size }

@@ -6,11 +6,15 @@ use Rattle.std.specs.Int.Bits.{bit_and, bit_or}
 use Rattle.rst_bytes.specs.Line.{is_space, not_line_ending_of}
 use Rattle.rst_bytes.specs.Tag.{starts_with}
 use Rattle.restructured_text.specs.Block.{three, further_of, lines_of}
-use Rattle.targetless.specs.declared.Verdict.{Verdict}
+use Rattle.targetless.specs.declared.verdict.Verdict.{Verdict}
 
 -- a block's text that begins with s, whose line has n bytes
 abbrev pub joined_of : List ℕ → ℕ → List ℕ → List ℕ
 joined_of indent n s = take n s ++ (lines_of indent 0 (drop n s)).text
+
+-- a fact of the block's text that begins with s
+abbrev pub OfText : (List ℕ → Type 0) → List ℕ → List ℕ → Type 0
+OfText P indent s = (n : ℕ) → not_line_ending_of s ≡ Some n → P (joined_of indent n s)
 
 -- whether a further line follows
 abbrev pub is_further : Option (ℕ × ℕ) → Bool
@@ -62,9 +66,9 @@ both_of a b = record { short = bit_and a.short b.short; long = bit_and a.long b.
 abbrev pub either_of : Verdict → Verdict → Verdict
 either_of a b = record { short = bit_or a.short b.short; long = bit_or a.long b.long }
 
--- so many less, or 0
-abbrev pub less_of : ℕ → ℕ → ℕ
-less_of a b = elim (ltb a b) [ true ↦ 0 | false ↦ a - b ]
+-- for the other indents
+abbrev pub not_of : Verdict → Verdict
+not_of a = record { short = ones - a.short; long = ones - a.long }
 
 -- the lowest n bits of 64
 unfoldable pub ones_of : ℕ → ℕ
@@ -72,11 +76,11 @@ ones_of n = elim (leb 64 n) [ true ↦ ones | false ↦ 2 ^ n - 1 ]
 
 -- it is so for the indents that have at most m bytes with three spaces
 abbrev pub up_to_of : ℕ → Verdict
-up_to_of m = record { short = ones_of (less_of m 1); long = ones_of (less_of m 65) }
+up_to_of m = record { short = ones_of (m - 1); long = ones_of (m - 65) }
 
 -- for the others
 abbrev pub beyond_of : ℕ → Verdict
-beyond_of m = record { short = ones - ones_of (less_of m 1); long = ones - ones_of (less_of m 65) }
+beyond_of m = not_of (up_to_of m)
 
 -- the same where a further line follows
 abbrev pub lone_of : Verdict → Bool → Verdict
@@ -89,10 +93,10 @@ over_of next lone shared =
     lone_of (elim (is_lone next) [ true ↦ either_of next (beyond_of shared) | false ↦ both_of next (up_to_of shared) ]) lone
 
 -- the verdict is true of the test of each text that begins with s
-abbrev pub Tells : (List ℕ → Bool) → Verdict → List ℕ → Type 0
-Tells f v s =
-    (indent : List ℕ) (n : ℕ) → Blank indent → not_line_ending_of s ≡ Some n
-    → judged_of v (is_further (further_of indent (drop n s))) (length indent) ≡ true → f (joined_of indent n s) ≡ true
+pub record Tells (f : List ℕ → Bool) (v : Verdict) (s : List ℕ) : Type 0 where
+  pub told :
+      (indent : List ℕ) (n : ℕ) → Blank indent → not_line_ending_of s ≡ Some n
+      → judged_of v (is_further (further_of indent (drop n s))) (length indent) ≡ true → f (joined_of indent n s) ≡ true
 
 -- a run over a text, up to a stop or a wrong escape
 unfoldable pub run : ℕ → (ℕ → Bool) → (List ℕ → Bool) → Bool → Bool → List ℕ → Bool
@@ -116,11 +120,13 @@ escape_of ok wrong near far (b ∷ []) = sure_of wrong
 escape_of ok wrong near far (b ∷ c ∷ rest) =
     elim (ends_line c) [ true ↦ lone_of near wrong | false ↦ elim (ok c) [ true ↦ far | false ↦ sure_of wrong ] ]
 
--- a further line follows just if the next line, at place next of s, begins with the indent and three spaces
-abbrev pub Follows : ℕ → List ℕ → List ℕ → Type 0
-Follows next whole s =
-    (indent : List ℕ) (n : ℕ) → Blank indent → not_line_ending_of s ≡ Some n
-    → is_further (further_of indent (drop n s)) ≡ starts_with (indent ++ three) (drop next whole)
+-- the flag says whether a further line follows, for this indent
+abbrev pub Flagged : Bool → List ℕ → List ℕ → Type 0
+Flagged on indent s = (n : ℕ) → not_line_ending_of s ≡ Some n → on ≡ is_further (further_of indent (drop n s))
+
+-- a further line follows just if the next line, with which `next` begins, begins with the indent and three spaces
+abbrev pub Follows : List ℕ → List ℕ → Type 0
+Follows next s = (indent : List ℕ) → Blank indent → Flagged (starts_with (indent ++ three) next) indent s
 
 -- the first bytes at both places are the same blanks, and no more of them
 abbrev pub Shared : ℕ → List ℕ → List ℕ → Type 0

@@ -1,13 +1,11 @@
 -- What the contracts of private functions speak of: what is kept at a place while a text is gone through from its end to its front.
 -- Assumes nothing.
-use Rattle.std.specs.Prelude.{Some, None}
-use Rattle.std.specs.Prelude.{ℕ, ◌+◌, ◌-◌, ◌≤◌, ◌<◌, ◌≡◌, List, [], ◌∷◌, true, false, ◌⊎◌, leb, length, drop, get_or}
-use Rattle.rst_bytes.specs.Line.{is_space, space0_of, not_line_ending_of}
-use Rattle.rst_bytes.specs.Tag.{starts_with}
-use Rattle.targetless.specs.declared.Verdict.{Verdict}
-use Rattle.targetless.specs.declared.Size.{Size}
-use Rattle.targetless.specs.declared.State.{State}
-use Rattle.targetless.specs.declared.line.Walk.{Walk}
+use Rattle.std.specs.Prelude.{ℕ, ◌-◌, ◌≤◌, ◌≡◌, List, [], ◌∷◌, Bool, true, false, Option, Some, None, leb, length, drop}
+use Rattle.rst_bytes.specs.Line.{space0_of, not_line_ending_of}
+use Rattle.targetless.specs.declared.verdict.Verdict.{Verdict}
+use Rattle.targetless.specs.declared.state.Size.{Size}
+use Rattle.targetless.specs.declared.state.State.{State}
+use Rattle.targetless.specs.declared.walk.Walk.{Walk}
 use Rattle.targetless.specs.Verdict.{everything, both_of, up_to_of, lone_of, over_of, judged_of, Tells, Follows}
 use Rattle.targetless.specs.Runs.{is_dead, line_stop, StateTells}
 
@@ -45,26 +43,20 @@ stop_of q shared destination front =
       | false ↦ lone_of destination true
     ]
 
--- the target behind the blanks at a place is that of the next place if a blank stands there, else its own
-abbrev pub front_of : ℕ → Verdict → Verdict → Verdict
-front_of b front target = elim (is_space b) [ true ↦ front | false ↦ target ]
+-- the line at the front of s is refused; or it is not, and as many bytes are left from the next line on
+abbrev pub Lined : Option ℕ → List ℕ → Type 0
+Lined None s = not_line_ending_of s ≡ None
+Lined (Some next) s = ((n : ℕ) × (not_line_ending_of s ≡ Some n)) × (next ≤ length s) × Follows (drop (length s - next) s) s
 
--- what is kept at place i of s is true
-abbrev pub Walked : Walk → ℕ → List ℕ → Type 0
-Walked w i s =
-    StateTells w.near (drop i s)
-    × StateTells w.far (drop (i + 1) s)
-    × Tells line_stop w.stop (drop i s)
-    × Tells is_dead w.front (drop (i + space0_of (drop i s)) s)
-    × (w.next ≤ length s)
-    × Follows w.next s (drop i s)
-    × (w.broken ≡ true → not_line_ending_of (drop i s) ≡ None)
-    × (w.broken ≡ false → (n : ℕ) × (not_line_ending_of (drop i s) ≡ Some n))
+-- what is kept where s begins is true
+pub record Walked (w : Walk) (s : List ℕ) : Type 0 where
+  pub near : StateTells w.near s
+  pub far : StateTells w.far (drop 1 s)
+  pub stop : Tells line_stop w.stop s
+  pub front : Tells is_dead w.front (drop (space0_of s) s)
+  pub next : Lined w.next s
 
--- blanks stand from place k on up to place h
-abbrev pub Indented : ℕ → ℕ → List ℕ → Type 0
-Indented k h s = (k ≤ h) × ((i : ℕ) → k ≤ i → i < h → is_space (get_or s i 0) ≡ true)
-
--- `__ ` stands at the front, or `.. ` and _
-abbrev pub Headed : List ℕ → Type 0
-Headed s = (starts_with (0x5F ∷ 0x5F ∷ 0x20 ∷ []) s ≡ true) ⊎ (starts_with (0x2E ∷ 0x2E ∷ 0x20 ∷ 0x5F ∷ []) s ≡ true)
+-- `.. _` if the flag says so, else `__ `
+abbrev pub header_of : Bool → List ℕ
+header_of true = 0x2E ∷ 0x2E ∷ 0x20 ∷ 0x5F ∷ []
+header_of false = 0x5F ∷ 0x5F ∷ 0x20 ∷ []

@@ -2,7 +2,7 @@
 -- were.
 -- Assumes nothing.
 use Rattle.std.proofs.Common.{refl}
-use Rattle.iterator.proofs.IndexLaws.{indexing-start, can-index, indexing-more, indexing-done}
+use Rattle.iterator.proofs.IndexLaws.{indexing-start, can-index, indexing-more}
 use Rattle.iterator.proofs.index.index_names.Goals as goal
 
 pub loop-i-init : goal.loop-i-init
@@ -14,6 +14,3 @@ index_row-requires c = can-index _ _ _ _ _ c.loop-i.invariant c.loop-i-test.true
 pub loop-i-preserved : goal.loop-i-preserved
 loop-i-preserved c =
     indexing-more _ _ _ _ _ c.loop-i.invariant _ c.index_row.auto.numbers c.loop-i-test.true c.index_row.ensures
-
-pub returns : goal.returns
-returns c = indexing-done _ _ _ _ _ c.loop-i.invariant c.loop-i-test.false

@@ -6,4 +6,4 @@ use Rattle.iterator.proofs.records.write_head.Goals as goal
 pub returns : goal.returns
 returns c =
     let a = c.args in
-    head-written a.skipped a.consumed a.text a.dest _ _ _ c.requires.0 c.to_be_bytes.ensures c.copy.ensures
+    head-written a.skipped a.consumed a.text a.dest _ _ _ c.requires.fields c.to_be_bytes.ensures c.copy.ensures

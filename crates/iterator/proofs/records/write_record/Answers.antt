@@ -6,4 +6,4 @@ use Rattle.iterator.proofs.records.write_record.Goals as goal
 pub returns-clause-written : goal.returns-clause-written
 returns-clause-written c =
     let a = c.args in
-    record-written a.document.now a.bytes.now a.x a.end _ _ _ _ _ _ c.text_of-text.ensures c.of-dest.ensures c.requires.1.1 c.write_head.ensures c.copy.ensures c.copy-2.ensures
+    record-written a.document.now a.bytes.now a.x a.end _ _ _ _ _ _ c.text_of-text.ensures c.of-dest.ensures c.requires.room c.write_head.ensures c.copy.ensures c.copy-2.ensures

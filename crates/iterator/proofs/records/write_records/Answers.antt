@@ -5,7 +5,7 @@ use Rattle.iterator.proofs.RecordLaws.{can-emit, emit-turn, emit-done}
 use Rattle.iterator.proofs.records.write_records.Goals as goal
 
 pub write_record-at-requires : goal.write_record-at-requires
-write_record-at-requires c = can-emit _ _ _ _ _ _ _ _ _ c.loop-i.invariant _ c.link_at-x.ensures c.loop-i-test.true c.requires.0 c.requires.1.0.1
+write_record-at-requires c = can-emit _ _ _ _ _ _ _ _ _ c.loop-i.invariant _ c.link_at-x.ensures c.loop-i-test.true c.requires.short c.requires.roomy.1
 
 pub loop-i-preserved : goal.loop-i-preserved
 loop-i-preserved c =

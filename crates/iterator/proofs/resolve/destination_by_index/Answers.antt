@@ -9,22 +9,22 @@ use Rattle.iterator.proofs.resolve.destination_by_index.Goals as goal
 
 pub loop-next-init : goal.loop-next-init
 loop-next-init c =
-    seeking-start _ _ _ _ c.requires.1 _ c.bucket.ensures.bucket c.bucket.ensures.small _ c.checked_sub-next.ensures
+    seeking-start _ _ _ _ c.requires.indexed _ c.bucket.ensures.bucket c.bucket.ensures.small _ c.checked_sub-next.ensures
 
 pub of-requires : goal.of-requires
 of-requires c =
     let i = ap counted c.in-Some.is in
-    row-inside _ _ _ _ _ c.pair_at-row.ensures i _ c.requires.0 c.loop-next.invariant.inside
+    row-inside _ _ _ _ _ c.pair_at-row.ensures i _ c.requires.held c.loop-next.invariant.inside
 
 pub returns-then-same_name : goal.returns-then-same_name
 returns-then-same_name c =
     let i = ap counted c.in-Some.is in
-    row-found _ _ _ _ _ c.pair_at-row.ensures i _ c.requires.0 c.loop-next.invariant.inside _ (search rules) c.loop-next.invariant.rest
+    row-found _ _ _ _ _ c.pair_at-row.ensures i _ c.requires.held c.loop-next.invariant.inside _ (search rules) c.loop-next.invariant.rest
 
 pub loop-next-preserved : goal.loop-next-preserved
 loop-next-preserved c =
     let i = ap counted c.in-Some.is in
-    seeking-more _ _ _ _ c.requires.1 _ _ i c.loop-next.invariant _ c.pair_at-row.ensures (λ e. search rules) _ c.checked_sub-next-in-Some.ensures
+    seeking-more _ _ _ _ c.requires.indexed _ _ i c.loop-next.invariant _ c.pair_at-row.ensures (λ e. search rules) _ c.checked_sub-next-in-Some.ensures
 
 pub returns-clause-found : goal.returns-clause-found
 returns-clause-found c = seeking-end _ _ _ _ _ c.loop-next.invariant (ap counted c.in_default.is)

@@ -1,19 +1,16 @@
 -- `resolve::destination_of` meets its contract. The loop's invariant: the name has in all rows what it has in the first `i`, since none of
 -- the others has it. At the end these are rows in which it has nothing.
 -- Assumes nothing.
-use Rattle.std.proofs.Common.{◌-◌, ◌∙◌, refl, sym, arith, rules}
+use Rattle.std.proofs.Common.{◌-◌, ◌∙◌, sym, arith, rules}
 use Rattle.iterator.proofs.LookupLaws.{row-inside, row-found, row_other, none-fewer}
 use Rattle.iterator.proofs.resolve.destination_of.Goals as goal
 
-pub loop-i-init : goal.loop-i-init
-loop-i-init c = refl
-
 pub of-requires : goal.of-requires
-of-requires c = row-inside _ _ c.loop-i.i _ _ c.pair_at-row.ensures (omega arith) _ c.requires.0 (omega arith)
+of-requires c = row-inside _ _ c.loop-i.i _ _ c.pair_at-row.ensures (omega arith) _ c.requires.held (omega arith)
 
 pub returns-then-same_name : goal.returns-then-same_name
 returns-then-same_name c =
-    row-found _ _ c.loop-i.i _ _ c.pair_at-row.ensures (omega arith) _ c.requires.0 (omega arith) _ (search rules) c.loop-i.invariant
+    row-found _ _ c.loop-i.i _ _ c.pair_at-row.ensures (omega arith) _ c.requires.held (omega arith) _ (search rules) c.loop-i.invariant
 
 pub loop-i-preserved : goal.loop-i-preserved
 loop-i-preserved c =
@@ -22,4 +19,4 @@ loop-i-preserved c =
 pub returns-clause-found : goal.returns-clause-found
 returns-clause-found c =
     let a = c.args in
-    sym (c.loop-i.invariant ∙ none-fewer a.numbers.now a.bytes.now a.name.now c.loop-i.i (a.from - c.loop-i.i) a.from (omega arith) c.requires.1.1)
+    sym (c.loop-i.invariant ∙ none-fewer a.numbers.now a.bytes.now a.name.now c.loop-i.i (a.from - c.loop-i.i) a.from (omega arith) c.requires.others)

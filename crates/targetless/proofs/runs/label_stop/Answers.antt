@@ -1,18 +1,14 @@
--- `runs::label_stop` meets its contract: what follows the backtick tells.
--- Assumes nothing.
-use mathlib.Core.Path.{sym, ap, subst⁻¹, ◌∙◌}
-use lib.ListN.{drop}
-use Rattle.targetless.specs.declared.Verdict.{Verdict}
-use Rattle.targetless.specs.Verdict.{ends_line, Tells}
-use Rattle.targetless.specs.Runs.{label_stop}
-use Rattle.targetless.proofs.StateLaws.{tells_none, label-open}
+-- What follows the backtick tells.
+use Rattle.std.proofs.Common.{arith}
+use Rattle.targetless.proofs.VerdictLaws.{tells-nothing}
+use Rattle.targetless.proofs.StateLaws.{label-open}
 use Rattle.targetless.proofs.runs.label_stop.Goals as goal
 
-pub returns-then-tag : goal.returns-then-tag
-returns-then-tag c = subst⁻¹ (λ (v : Verdict). Tells label_stop v (drop c.args.i c.args.s.now)) c.nothing.ensures (tells_none c.args.s.now c.args.i c.requires.0 label_stop)
+pub returns-in-95 : goal.returns-in-95
+returns-in-95 c = tells-nothing _ _
 
-pub returns : goal.returns
-returns c =
-    let s = c.args.s.now in
-    let i = c.args.i in
-    subst⁻¹ (λ (v : Verdict). Tells label_stop v (drop i s)) c.everything.ensures (label-open s i c.requires.0 (ap ends_line c.requires.1) c.requires.1 (sym c.tag.ensures ∙ c.if-tag.false))
+pub returns-in_default : goal.returns-in_default
+returns-in_default c = label-open c.args.rest.now (λ h e. omega arith)
+
+pub returns-in_default-2 : goal.returns-in_default-2
+returns-in_default-2 c = label-open c.args.rest.now (λ h e. omega arith)

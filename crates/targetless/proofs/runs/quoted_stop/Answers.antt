@@ -1,18 +1,13 @@
--- `runs::quoted_stop` meets its contract: what follows the backtick tells.
--- Assumes nothing.
-use mathlib.Core.Path.{sym, ap, subst⁻¹, ◌∙◌}
-use lib.ListN.{drop}
-use Rattle.targetless.specs.declared.Verdict.{Verdict}
-use Rattle.targetless.specs.Verdict.{ends_line, Tells}
-use Rattle.targetless.specs.Runs.{quoted_stop}
+-- What follows the backtick tells.
+use Rattle.std.proofs.Common.{arith}
 use Rattle.targetless.proofs.StateLaws.{quoted-open, quoted-plain}
 use Rattle.targetless.proofs.runs.quoted_stop.Goals as goal
 
-pub returns-then-tag : goal.returns-then-tag
-returns-then-tag c = quoted-plain c.args.s.now c.args.i c.requires.here.0 (ap ends_line c.requires.here.1) c.requires.here.1 (sym c.tag.ensures ∙ c.if-tag.true) c.args.plain c.requires.plain
+pub returns-in-58 : goal.returns-in-58
+returns-in-58 c = quoted-plain c.args.rest.now c.args.plain (omega arith) (omega arith) c.requires
 
-pub returns : goal.returns
-returns c =
-    let s = c.args.s.now in
-    let i = c.args.i in
-    subst⁻¹ (λ (v : Verdict). Tells quoted_stop v (drop i s)) c.everything.ensures (quoted-open s i c.requires.here.0 (ap ends_line c.requires.here.1) c.requires.here.1 (sym c.tag.ensures ∙ c.if-tag.false))
+pub returns-in_default : goal.returns-in_default
+returns-in_default c = quoted-open c.args.rest.now (λ h e. omega arith)
+
+pub returns-in_default-2 : goal.returns-in_default-2
+returns-in_default-2 c = quoted-open c.args.rest.now (λ h e. omega arith)

@@ -12,10 +12,17 @@ destination_of-requires c = tried-lookable _ _ _ c.requires _ c.pair_at-x.ensure
 
 pub put_pair-requires : goal.put_pair-requires
 put_pair-requires c =
-    (omega (arith, c.requires.0.few), stored-small _ _ _ c.requires _ c.pair_at-x.ensures _ c.in-Some.ensures.within)
+    record {
+      room = omega (arith, c.requires.walking.few);
+      small = stored-small _ _ _ c.requires _ c.pair_at-x.ensures _ c.in-Some.ensures.within;
+    }
 
 pub put_pair-requires-in-None : goal.put_pair-requires-in-None
-put_pair-requires-in-None c = (omega (arith, c.requires.0.end-few), tried-small _ _ _ c.requires _ c.pair_at-x.ensures)
+put_pair-requires-in-None c =
+    record {
+      room = omega (arith, c.requires.walking.end-few);
+      small = tried-small _ _ _ c.requires _ c.pair_at-x.ensures;
+    }
 
 pub returns-in-Some : goal.returns-in-Some
 returns-in-Some c =
