@@ -4,6 +4,7 @@
 // public call asks nothing of its caller and always returns; its contract is an equation with a definition of specs/.
 #![tactic(auto)]
 
+mod areas;
 mod collect;
 mod counters;
 mod index;
@@ -20,6 +21,7 @@ ghost use Rattle.iterator.specs.Document.{answer_of, document_of, verdict, verdi
 ghost use Rattle.iterator.specs.Render.{render_number};
 ghost use Rattle.iterator.specs.Inner.{Roomy, outcome_of, Told};
 
+use crate::areas::{clear_bytes, clear_numbers};
 use crate::collect::collect;
 use crate::records::write_records;
 use crate::render::Render;
@@ -121,7 +123,7 @@ pub fn document(
     ensures { answer_of (verdict result output.new) numbers.new bytes.new ≡ document_of document.now render numbers.old bytes.old output.old }
 {
     let answer = work(document, render, numbers, bytes, output);
-    numbers.fill(0);
-    bytes.fill(0);
+    clear_numbers(numbers);
+    clear_bytes(bytes);
     Outcome::new(answer)
 }

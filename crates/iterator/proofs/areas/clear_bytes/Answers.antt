@@ -1,0 +1,26 @@
+-- `clear_bytes` meets its contract: after i turns the first i bytes are 0.
+-- Assumes nothing.
+use native.Mathlib.Omega.{arith}
+use Rattle.targetless.proofs.ClearLaws.{clear_none, clear-more, clear-all}
+use Rattle.iterator.proofs.areas.clear_bytes.Goals as goal
+
+pub loop-i-init : goal.loop-i-init
+loop-i-init c = clear_none _
+
+pub bounds-bytes-i : goal.bounds-bytes-i
+bounds-bytes-i c = omega arith
+
+pub overflow_add-i : goal.overflow_add-i
+overflow_add-i c = omega arith
+
+pub loop-i-smaller : goal.loop-i-smaller
+loop-i-smaller c = omega arith
+
+pub loop-i-preserved : goal.loop-i-preserved
+loop-i-preserved c = clear-more _ _ _ c.loop-i-test.true c.loop-i.invariant
+
+pub shape_of-bytes : goal.shape_of-bytes
+shape_of-bytes c = c.loop-i.invariant.long
+
+pub returns : goal.returns
+returns c = clear-all _ _ _ c.loop-i-test.false c.loop-i.invariant
