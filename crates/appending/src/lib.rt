@@ -10,7 +10,7 @@ ghost use Rattle.appending.specs.Claim.{Keeps};
 use iterator::Outcome;
 
 // What two calls return.
-#[derive(Clone, Copy)]
+#[derive(Clone, Copy, Debug, PartialEq, Eq)]
 pub struct Both {
     pub first: Outcome,
     pub second: Outcome,

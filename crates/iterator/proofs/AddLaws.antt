@@ -1,6 +1,6 @@
 -- A reference and a block are added to the tables: a label or a name that is _ is numbered, and written behind the bytes that were taken.
 -- Assumes nothing.
-use Prim.Native.Nat.{ℕ}
+use Prim.Native.Nat.{ℕ, ◌+◌}
 use native.Mathlib.Omega.{arith}
 use mathlib.Core.Path.{◌≡◌, sym, ap, subst, ◌∙◌}
 use mathlib.Core.Bool.{true, false}
@@ -13,9 +13,9 @@ use Rattle.iterator.specs.declared.rows.LinkRow.{LinkRow}
 use Rattle.iterator.specs.declared.rows.LinkKind.TheVariants.{Reference, Rendered}
 use Rattle.iterator.specs.declared.counters.Counters.{Counters}
 use Rattle.iterator.specs.declared.collect.MarkupLinkCollection.{MarkupLinkCollection}
-use Rattle.iterator.specs.declared.collect.Table.TheVariants.{Destinations, Aliases}
+use Rattle.iterator.specs.declared.rows.Table.TheVariants.{Destinations, Aliases}
 use Rattle.iterator.specs.Collect.{is_anonymous, numbered, Pair, pair, Item, item, destination, label, Collection, Collected, and_then, add_link, add_destination, add_alias, reference_label, with_reference, target_name, with_target, consumed_bytes}
-use Rattle.iterator.specs.Rows.{pair_rows, link_rows, pairs_of, items_of, pair_of, item_of, destinations_at, aliases_at, PairWithin, LinkWithin, PairsWithin, LinksWithin}
+use Rattle.iterator.specs.Rows.{pair_rows, link_rows, pairs_of, items_of, pair_of, item_of, destinations_at, aliases_at, SpanWithin, PairWithin, LinkWithin, PairsWithin, LinksWithin}
 use Rattle.iterator.specs.Inner.{
   reference_numbered,
   target_numbered,
@@ -72,17 +72,17 @@ module _ (t w w' : List ℕ) (a : Span) (next : ℕ × Counters) (c d : MarkupLi
   items-same : (s : List ℕ) → items_of d.links 0 s t w' ≡ items_of c.links 0 s t w
   items-same s =
       ap (λ (z : ℕ). items_of z 0 s t w') same-links
-      ∙ items_kept c.at c.fill (link_rows c.links 0 t) s w w' k.tables.links-within v.kept
+      ∙ items_kept c.at c.taken (link_rows c.links 0 t) s w w' k.tables.links-within v.kept
 
   destinations-same : pairs_of d.label2dest destinations_at t w' ≡ pairs_of c.label2dest destinations_at t w
   destinations-same =
       ap (λ (z : ℕ). pairs_of z destinations_at t w') same-destinations
-      ∙ pairs-kept c.fill (pair_rows c.label2dest destinations_at t) w w' k.tables.destinations-within v.kept
+      ∙ pairs-kept c.taken (pair_rows c.label2dest destinations_at t) w w' k.tables.destinations-within v.kept
 
   aliases-same : pairs_of d.label2label aliases_at t w' ≡ pairs_of c.label2label aliases_at t w
   aliases-same =
       ap (λ (z : ℕ). pairs_of z aliases_at t w') same-aliases
-      ∙ pairs-kept c.fill (pair_rows c.label2label aliases_at t) w w' k.tables.aliases-within v.kept
+      ∙ pairs-kept c.taken (pair_rows c.label2label aliases_at t) w w' k.tables.aliases-within v.kept
 
   tables-same : Tables t d
   tables-same =
@@ -91,25 +91,25 @@ module _ (t w w' : List ℕ) (a : Span) (next : ℕ × Counters) (c d : MarkupLi
         names-few = omega (arith, same-destinations, same-aliases, k.tables.names-few);
         links-within =
             subst
-            (λ (z : ℕ). LinksWithin d.at d.fill (link_rows z 0 t))
+            (λ (z : ℕ). LinksWithin d.at d.taken (link_rows z 0 t))
             (sym same-links)
-            (links-within-wider c.at d.at c.fill d.fill (link_rows c.links 0 t) (omega (arith, same_at)) v.grows k.tables.links-within);
+            (links-within-wider c.at d.at c.taken d.taken (link_rows c.links 0 t) (omega (arith, same_at)) v.grows k.tables.links-within);
         destinations-within =
             subst
-            (λ (z : ℕ). PairsWithin d.fill (pair_rows z destinations_at t))
+            (λ (z : ℕ). PairsWithin d.taken (pair_rows z destinations_at t))
             (sym same-destinations)
-            (pairs-within-wider c.fill d.fill (pair_rows c.label2dest destinations_at t) v.grows k.tables.destinations-within);
+            (pairs-within-wider c.taken d.taken (pair_rows c.label2dest destinations_at t) v.grows k.tables.destinations-within);
         aliases-within =
             subst
-            (λ (z : ℕ). PairsWithin d.fill (pair_rows z aliases_at t))
+            (λ (z : ℕ). PairsWithin d.taken (pair_rows z aliases_at t))
             (sym same-aliases)
-            (pairs-within-wider c.fill d.fill (pair_rows c.label2label aliases_at t) v.grows k.tables.aliases-within);
+            (pairs-within-wider c.taken d.taken (pair_rows c.label2label aliases_at t) v.grows k.tables.aliases-within);
       }
 
   -- a reference
   module _ (e : next ≡ reference_numbered c.counters) where
-    reference : Counted (is_anonymous (part a w)) c.counters.references d.counters.references c.counters.targets d.counters.targets c.fill d.fill
-    reference = reference-counted c.counters d.counters c.fill d.fill next e (is_anonymous (part a w)) v.counters v.filled
+    reference : Counted (is_anonymous (part a w)) c.counters.references d.counters.references c.counters.targets d.counters.targets c.taken d.taken
+    reference = reference-counted c.counters d.counters c.taken d.taken next e (is_anonymous (part a w)) v.counters v.filled
 
     reference-collection : (s : List ℕ) → collection_of s t w' d ≡ with_reference (part a w) (collection_of s t w c)
     reference-collection s = alike (items-same s) destinations-same aliases-same reference.counted reference.same
@@ -126,8 +126,8 @@ module _ (t w w' : List ℕ) (a : Span) (next : ℕ × Counters) (c d : MarkupLi
 
   -- a block
   module _ (e : next ≡ target_numbered c.counters) where
-    target : Counted (is_anonymous (part a w)) c.counters.targets d.counters.targets c.counters.references d.counters.references c.fill d.fill
-    target = target-counted c.counters d.counters c.fill d.fill next e (is_anonymous (part a w)) v.counters v.filled
+    target : Counted (is_anonymous (part a w)) c.counters.targets d.counters.targets c.counters.references d.counters.references c.taken d.taken
+    target = target-counted c.counters d.counters c.taken d.taken next e (is_anonymous (part a w)) v.counters v.filled
 
     target-collection : (s : List ℕ) → collection_of s t w' d ≡ with_target (part a w) (collection_of s t w c)
     target-collection s = alike (items-same s) destinations-same aliases-same target.same target.counted
@@ -159,7 +159,7 @@ module _ (t w w' : List ℕ) (c d : MarkupLinkCollection) (x : LinkRow) (next : 
   reference-label : (s : List ℕ) → part g w' ≡ reference_label (collection_of s t w c) (part x.goal w)
   reference-label s = v.label ∙ ap (λ (z : ℕ × Counters). elim (is_anonymous (part x.goal w)) [ true ↦ numbered z.0 | false ↦ part x.goal w ]) e
 
-  reference-within : LinkWithin d.at d.fill reference_row
+  reference-within : LinkWithin d.at d.taken reference_row
   reference-within =
       (omega (arith, same_at t w w' x.goal next c d g p.held v, p.read), ((omega (arith, v.grows, p.text-within.0), p.text-within.1), v.within))
 
@@ -172,7 +172,7 @@ module _ (t w w' : List ℕ) (c d : MarkupLinkCollection) (x : LinkRow) (next : 
             step_by s w' t' _ r _ f h
             ∙ link-step t d reference_row p.roomy.0 0 held s w'
             ∙ add-link-by
-            (item_by_lem (part-kept c.fill x.text w w' p.text-within.0 v.kept) (reference-label s))
+            (item_by_lem (part-kept c.taken x.text w w' p.text-within.0 v.kept) (reference-label s))
             (reference-collection t w w' x.goal next c d g p.held v e s);
         held =
             subst
@@ -182,21 +182,31 @@ module _ (t w w' : List ℕ) (c d : MarkupLinkCollection) (x : LinkRow) (next : 
       }
 
 -- A block: its name is its text.
-module _ (t w w' : List ℕ) (c d : MarkupLinkCollection) (x : LinkRow) (next : ℕ × Counters) (g : Span) (p : Addable t w x c) (v : LabelledBy x.text next c w d w' g) (e : next ≡ target_numbered c.counters) where
-  abbrev block_row : PairRow
-  block_row = record { name = g; to = x.goal }
+abbrev block_row : LinkRow → Span → PairRow
+block_row x g = record { name = g; to = x.goal }
 
+-- The pair that it tells, if its target stands in the bytes that are taken.
+module _ (t w w' : List ℕ) (c d : MarkupLinkCollection) (x : LinkRow) (next : ℕ × Counters) (g : Span) (inside : SpanWithin c.taken x.goal) (v : LabelledBy x.text next c w d w' g) (e : next.0 ≡ c.counters.targets + 1) where
+  goal-kept : part x.goal w' ≡ part x.goal w
+  goal-kept = part-kept c.taken x.goal w w' inside.0 v.kept
+
+  block-pair : (s : List ℕ) → pair_of w' (block_row x g) ≡ pair (target_name (collection_of s t w c) (part x.text w)) (part x.goal w)
+  block-pair s =
+      pair-by (v.label ∙ ap (λ (z : ℕ). elim (is_anonymous (part x.text w)) [ true ↦ numbered z | false ↦ part x.text w ]) e) goal-kept
+
+  block_within : PairWithin d.taken (block_row x g)
+  block_within = (v.within, (omega (arith, v.grows, inside.0), inside.1))
+
+-- What adding it does.
+module _ (t w w' : List ℕ) (c d : MarkupLinkCollection) (x : LinkRow) (next : ℕ × Counters) (g : Span) (p : Addable t w x c) (v : LabelledBy x.text next c w d w' g) (e : next ≡ target_numbered c.counters) where
   abbrev rendered_row : LinkRow
   rendered_row = record x { text = record { start = x.place; len = x.consumed }; kind = Rendered }
 
-  goal-kept : part x.goal w' ≡ part x.goal w
-  goal-kept = part-kept c.fill x.goal w w' p.goal-within.0 v.kept
+  number : next.0 ≡ c.counters.targets + 1
+  number = ap (λ (z : ℕ × Counters). z.0) e
 
-  block-name : (s : List ℕ) → part g w' ≡ target_name (collection_of s t w c) (part x.text w)
-  block-name s = v.label ∙ ap (λ (z : ℕ × Counters). elim (is_anonymous (part x.text w)) [ true ↦ numbered z.0 | false ↦ part x.text w ]) e
-
-  block-pair : (s : List ℕ) → pair_of w' block_row ≡ pair (target_name (collection_of s t w c) (part x.text w)) (part x.goal w)
-  block-pair s = pair-by (block-name s) goal-kept
+  named : (s : List ℕ) → pair_of w' (block_row x g) ≡ pair (target_name (collection_of s t w c) (part x.text w)) (part x.goal w)
+  named s = block-pair t w w' c d x next g p.goal-within v number s
 
   held : Held 0 1 t d
   held = target-held t w w' x.text next c d g p.held v e
@@ -207,10 +217,10 @@ module _ (t w w' : List ℕ) (c d : MarkupLinkCollection) (x : LinkRow) (next : 
   block_at : d.at ≡ c.at
   block_at = same_at t w w' x.text next c d g p.held v
 
-  block_within : PairWithin d.fill block_row
-  block_within = (v.within, (omega (arith, v.grows, p.goal-within.0), p.goal-within.1))
+  name-within : PairWithin d.taken (block_row x g)
+  name-within = block_within t w w' c d x next g p.goal-within v number
 
-  rendered-within : LinkWithin d.at d.fill rendered_row
+  rendered-within : LinkWithin d.at d.taken rendered_row
   rendered-within =
       (omega (arith, block_at, p.read), ((omega (arith, block_at, p.read), p.short), (omega (arith, v.grows, p.goal-within.0), p.goal-within.1)))
 
@@ -219,43 +229,43 @@ module _ (t w w' : List ℕ) (c d : MarkupLinkCollection) (x : LinkRow) (next : 
   block-held t' t'' r r' f h q = subst (λ (n : ℕ). StepHeld n t' r) block_at (step-held-by d.at t' t'' r r' f h q)
 
   -- an alias
-  pub alias-adds : (t' : List ℕ) (r : Step) → t' ≡ with_name_row Aliases t d block_row → r ≡ name_added Aliases d → Adds label2label 0 x c t w t' w' r
+  pub alias-adds : (t' : List ℕ) (r : Step) → t' ≡ with_name_row Aliases t d (block_row x g) → r ≡ name_added Aliases d → Adds label2label 0 x c t w t' w' r
   alias-adds t' r f h =
       record {
         step =
             λ s.
             step_by s w' t' _ r _ f h
-            ∙ alias-step t d block_row p.roomy.0 held s w'
-            ∙ ap (λ (z : Pair). add_alias z (collection_of s t w' d)) (block-pair s)
+            ∙ alias-step t d (block_row x g) p.roomy.0 held s w'
+            ∙ ap (λ (z : Pair). add_alias z (collection_of s t w' d)) (named s)
             ∙ ap (add_alias (pair (target_name (collection_of s t w c) (part x.text w)) (part x.goal w))) (counted s);
-        held = block-held t' _ r _ f h (alias-step-held t d block_row p.roomy.0 held block_within);
+        held = block-held t' _ r _ f h (alias-step-held t d (block_row x g) p.roomy.0 held name-within);
       }
 
   -- a destination
-  pub destination-adds : (t' : List ℕ) (r : Step) → t' ≡ with_name_row Destinations t d block_row → r ≡ name_added Destinations d → Adds label2dest 0 x c t w t' w' r
+  pub destination-adds : (t' : List ℕ) (r : Step) → t' ≡ with_name_row Destinations t d (block_row x g) → r ≡ name_added Destinations d → Adds label2dest 0 x c t w t' w' r
   destination-adds t' r f h =
       record {
         step =
             λ s.
             step_by s w' t' _ r _ f h
-            ∙ destination-step t d block_row p.roomy.0 0 held s w'
-            ∙ ap (λ (z : Pair). add_destination z (collection_of s t w' d)) (block-pair s)
+            ∙ destination-step t d (block_row x g) p.roomy.0 0 held s w'
+            ∙ ap (λ (z : Pair). add_destination z (collection_of s t w' d)) (named s)
             ∙ ap (add_destination (pair (target_name (collection_of s t w c) (part x.text w)) (part x.goal w))) (counted s);
-        held = block-held t' _ r _ f h (destination-step-held t d block_row p.roomy.0 held block_within);
+        held = block-held t' _ r _ f h (destination-step-held t d (block_row x g) p.roomy.0 held name-within);
       }
 
   -- one that is rendered
-  pub rendered-adds : (t' : List ℕ) (r : Step) → t' ≡ with_both_rows t d rendered_row block_row → r ≡ both_added d → Adds label2dest 1 x c t w t' w' r
+  pub rendered-adds : (t' : List ℕ) (r : Step) → t' ≡ with_both_rows t d rendered_row (block_row x g) → r ≡ both_added d → Adds label2dest 1 x c t w t' w' r
   rendered-adds t' r f h =
       let wider = held-wider 0 1 1 1 t d (omega arith) (omega arith) held in
       record {
         step =
             λ s.
             step_by s w' t' _ r _ f h
-            ∙ both-step t d rendered_row block_row p.roomy.0 wider rendered-within s w'
-            ∙ ap (λ (z : Pair). and_then (add_link (item_of s w' rendered_row) (collection_of s t w' d)) (add_destination z)) (block-pair s)
+            ∙ both-step t d rendered_row (block_row x g) p.roomy.0 wider rendered-within s w'
+            ∙ ap (λ (z : Pair). and_then (add_link (item_of s w' rendered_row) (collection_of s t w' d)) (add_destination z)) (named s)
             ∙ ap
             (λ (z : Collected). and_then z (add_destination (pair (target_name (collection_of s t w c) (part x.text w)) (part x.goal w))))
-            (add-link-by (ap (λ (z : List ℕ). item (placed_of label2dest x w) (consumed_bytes s (placed_of label2dest x w)) (destination z)) goal-kept) (counted s));
-        held = block-held t' _ r _ f h (both-step-held t d rendered_row block_row p.roomy.0 wider rendered-within block_within);
+            (add-link-by (ap (λ (z : List ℕ). item (placed_of label2dest x w) (consumed_bytes s (placed_of label2dest x w)) (destination z)) (goal-kept t w w' c d x next g p.goal-within v number)) (counted s));
+        held = block-held t' _ r _ f h (both-step-held t d rendered_row (block_row x g) p.roomy.0 wider rendered-within name-within);
       }

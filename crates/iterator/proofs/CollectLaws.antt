@@ -1,6 +1,7 @@
 -- Collecting in the work areas is collecting: a row more in a table is a link, a name or an alias more; a numbered label or name stands
 -- behind what is taken, so the strings of the rows are as they were.
 -- Assumes nothing.
+use Rattle.std.proofs.lemmas.List.{map_push}
 use Prim.Native.Nat.{ℕ, zero, suc, ◌+◌, ◌*◌, ◌<◌, ◌≤◌}
 use native.Mathlib.Nat.{zero-add}
 use native.Mathlib.Omega.{arith}
@@ -17,11 +18,11 @@ use Rattle.rst_bytes.proofs.TestLaws.{lt-or-le}
 use Rattle.iterator.specs.declared.rows.PairRow.{PairRow}
 use Rattle.iterator.specs.declared.rows.LinkRow.{LinkRow}
 use Rattle.iterator.specs.declared.collect.MarkupLinkCollection.{MarkupLinkCollection}
-use Rattle.iterator.specs.declared.collect.Table.TheVariants.{Destinations, Aliases}
+use Rattle.iterator.specs.declared.rows.Table.TheVariants.{Destinations, Aliases}
 use Rattle.iterator.specs.Collect.{Pair, Item, Collection, Collected, collected, refused, and_then, add_link, add_destination, add_alias, with_link, with_destination, with_alias, definitions}
 use Rattle.iterator.specs.Rows.{pair_rows, link_rows, pairs_of, items_of, pair_of, item_of, put_pair, put_link, destinations_at, aliases_at, PairWithin, LinkWithin, PairsWithin, LinksWithin}
 use Rattle.iterator.specs.Inner.{Held, Step, StepHeld, collection_of, step_of, one_link, one_name, names, if_room, link_added, with_link_row, name_added, with_name_row, both_added, with_both_rows}
-use Rattle.iterator.proofs.RowsLaws.{length-put-link, length_pairs, pairs-put, links-put, pairs-pair-after, pairs-pair-before, links-pair-after, pairs-link-before, pairs-within-snoc, links-within-snoc, map_snoc}
+use Rattle.iterator.proofs.RowsLaws.{length-put-link, length_pairs, pairs-put, links-put, pairs-pair-after, pairs-pair-before, links-pair-after, pairs-link-before, pairs-within-snoc, links-within-snoc}
 
 abbrev collection : List Item → List Pair → List Pair → ℕ → ℕ → Collection
 collection x y z m n = record { links = x; label2dest = y; label2label = z; references = m; targets = n }
@@ -82,18 +83,18 @@ module _ (i j : ℕ) (t : List ℕ) (c : MarkupLinkCollection) (x : LinkRow) (k 
 
   link-collection : (s w : List ℕ) → collection_of s (put_link t (7 * c.links) x) w (one_link c) ≡ with_link (item_of s w x) (collection_of s t w c)
   link-collection s w =
-      alike (ap (map (item_of s w)) links-rows ∙ map_snoc (item_of s w) (link_rows c.links 0 t) x) (ap (map (pair_of w)) destinations-rows) (ap (map (pair_of w)) aliases-rows) refl refl
+      alike (ap (map (item_of s w)) links-rows ∙ map_push (item_of s w) (link_rows c.links 0 t) x) (ap (map (pair_of w)) destinations-rows) (ap (map (pair_of w)) aliases-rows) refl refl
 
-  link-held : LinkWithin c.at c.fill x → Held i j (put_link t (7 * c.links) x) (one_link c)
+  link-held : LinkWithin c.at c.taken x → Held i j (put_link t (7 * c.links) x) (one_link c)
   link-held h =
       record {
         tables =
             record {
               links-few = omega arith;
               names-few = k.tables.names-few;
-              links-within = subst (LinksWithin c.at c.fill) (sym links-rows) (links-within-snoc c.at c.fill (link_rows c.links 0 t) x k.tables.links-within h);
-              destinations-within = subst (PairsWithin c.fill) (sym destinations-rows) k.tables.destinations-within;
-              aliases-within = subst (PairsWithin c.fill) (sym aliases-rows) k.tables.aliases-within;
+              links-within = subst (LinksWithin c.at c.taken) (sym links-rows) (links-within-snoc c.at c.taken (link_rows c.links 0 t) x k.tables.links-within h);
+              destinations-within = subst (PairsWithin c.taken) (sym destinations-rows) k.tables.destinations-within;
+              aliases-within = subst (PairsWithin c.taken) (sym aliases-rows) k.tables.aliases-within;
             };
         inside = k.inside;
         references-few = omega (arith, k.references-few);
@@ -114,18 +115,18 @@ module _ (i j : ℕ) (t : List ℕ) (c : MarkupLinkCollection) (x : PairRow) (k 
 
   destination-collection : (s w : List ℕ) → collection_of s (put_pair t (destinations_at + 4 * c.label2dest) x) w (one_name Destinations c) ≡ with_destination (pair_of w x) (collection_of s t w c)
   destination-collection s w =
-      alike (ap (map (item_of s w)) links-rows₂) (ap (map (pair_of w)) destinations-rows₂ ∙ map_snoc (pair_of w) (pair_rows c.label2dest destinations_at t) x) (ap (map (pair_of w)) aliases-rows₂) refl refl
+      alike (ap (map (item_of s w)) links-rows₂) (ap (map (pair_of w)) destinations-rows₂ ∙ map_push (pair_of w) (pair_rows c.label2dest destinations_at t) x) (ap (map (pair_of w)) aliases-rows₂) refl refl
 
-  destination-held : PairWithin c.fill x → Held i j (put_pair t (destinations_at + 4 * c.label2dest) x) (one_name Destinations c)
+  destination-held : PairWithin c.taken x → Held i j (put_pair t (destinations_at + 4 * c.label2dest) x) (one_name Destinations c)
   destination-held h =
       record {
         tables =
             record {
               links-few = k.tables.links-few;
               names-few = omega arith;
-              links-within = subst (LinksWithin c.at c.fill) (sym links-rows₂) k.tables.links-within;
-              destinations-within = subst (PairsWithin c.fill) (sym destinations-rows₂) (pairs-within-snoc c.fill (pair_rows c.label2dest destinations_at t) x k.tables.destinations-within h);
-              aliases-within = subst (PairsWithin c.fill) (sym aliases-rows₂) k.tables.aliases-within;
+              links-within = subst (LinksWithin c.at c.taken) (sym links-rows₂) k.tables.links-within;
+              destinations-within = subst (PairsWithin c.taken) (sym destinations-rows₂) (pairs-within-snoc c.taken (pair_rows c.label2dest destinations_at t) x k.tables.destinations-within h);
+              aliases-within = subst (PairsWithin c.taken) (sym aliases-rows₂) k.tables.aliases-within;
             };
         inside = k.inside;
         references-few = k.references-few;
@@ -146,18 +147,18 @@ module _ (i j : ℕ) (t : List ℕ) (c : MarkupLinkCollection) (x : PairRow) (k 
 
   alias-collection : (s w : List ℕ) → collection_of s (put_pair t (aliases_at + 4 * c.label2label) x) w (one_name Aliases c) ≡ with_alias (pair_of w x) (collection_of s t w c)
   alias-collection s w =
-      alike (ap (map (item_of s w)) links-rows₃) (ap (map (pair_of w)) destinations-rows₃) (ap (map (pair_of w)) aliases-rows₃ ∙ map_snoc (pair_of w) (pair_rows c.label2label aliases_at t) x) refl refl
+      alike (ap (map (item_of s w)) links-rows₃) (ap (map (pair_of w)) destinations-rows₃) (ap (map (pair_of w)) aliases-rows₃ ∙ map_push (pair_of w) (pair_rows c.label2label aliases_at t) x) refl refl
 
-  alias-held : PairWithin c.fill x → Held i j (put_pair t (aliases_at + 4 * c.label2label) x) (one_name Aliases c)
+  alias-held : PairWithin c.taken x → Held i j (put_pair t (aliases_at + 4 * c.label2label) x) (one_name Aliases c)
   alias-held h =
       record {
         tables =
             record {
               links-few = k.tables.links-few;
               names-few = omega arith;
-              links-within = subst (LinksWithin c.at c.fill) (sym links-rows₃) k.tables.links-within;
-              destinations-within = subst (PairsWithin c.fill) (sym destinations-rows₃) k.tables.destinations-within;
-              aliases-within = subst (PairsWithin c.fill) (sym aliases-rows₃) (pairs-within-snoc c.fill (pair_rows c.label2label aliases_at t) x k.tables.aliases-within h);
+              links-within = subst (LinksWithin c.at c.taken) (sym links-rows₃) k.tables.links-within;
+              destinations-within = subst (PairsWithin c.taken) (sym destinations-rows₃) k.tables.destinations-within;
+              aliases-within = subst (PairsWithin c.taken) (sym aliases-rows₃) (pairs-within-snoc c.taken (pair_rows c.label2label aliases_at t) x k.tables.aliases-within h);
             };
         inside = k.inside;
         references-few = k.references-few;
@@ -222,7 +223,7 @@ module _ (t : List ℕ) (c : MarkupLinkCollection) (x : LinkRow) (l : 4096 ≤ l
       (λ h. ap collected (link-collection 0 j t c x k h l s w) ∙ sym (add-link-some (collection_of s t w c) (item_of s w x) (omega (arith, n))))
       (λ h. sym (add-link-none (collection_of s t w c) (item_of s w x) (omega (arith, n))))
 
-  pub link-step-held : Held 1 0 t c → LinkWithin c.at c.fill x → StepHeld c.at (with_link_row t c x) (link_added c)
+  pub link-step-held : Held 1 0 t c → LinkWithin c.at c.taken x → StepHeld c.at (with_link_row t c x) (link_added c)
   link-step-held k v =
       room-held c.links t (put_link t (7 * c.links) x) (Ok (one_link c)) refusals.Links c.at refl (λ h. (link-held 0 0 t c x k h l v, refl))
 
@@ -239,7 +240,7 @@ module _ (t : List ℕ) (c : MarkupLinkCollection) (x : PairRow) (l : 4096 ≤ l
       (λ h. ap collected (destination-collection i 0 t c x k h l s w) ∙ sym (add-destination-some (collection_of s t w c) (pair_of w x) (omega (arith, defined s w))))
       (λ h. sym (add-destination-none (collection_of s t w c) (pair_of w x) (omega (arith, defined s w))))
 
-  pub destination-step-held : Held 0 1 t c → PairWithin c.fill x → StepHeld c.at (with_name_row Destinations t c x) (name_added Destinations c)
+  pub destination-step-held : Held 0 1 t c → PairWithin c.taken x → StepHeld c.at (with_name_row Destinations t c x) (name_added Destinations c)
   destination-step-held k v =
       room-held (names c) t (put_pair t (destinations_at + 4 * c.label2dest) x) (Ok (one_name Destinations c)) refusals.Names c.at refl
       (λ h. (destination-held 0 0 t c x k h l v, refl))
@@ -252,7 +253,7 @@ module _ (t : List ℕ) (c : MarkupLinkCollection) (x : PairRow) (l : 4096 ≤ l
       (λ h. ap collected (alias-collection 0 0 t c x k h l s w) ∙ sym (add-alias-some (collection_of s t w c) (pair_of w x) (omega (arith, defined s w))))
       (λ h. sym (add-alias-none (collection_of s t w c) (pair_of w x) (omega (arith, defined s w))))
 
-  pub alias-step-held : Held 0 1 t c → PairWithin c.fill x → StepHeld c.at (with_name_row Aliases t c x) (name_added Aliases c)
+  pub alias-step-held : Held 0 1 t c → PairWithin c.taken x → StepHeld c.at (with_name_row Aliases t c x) (name_added Aliases c)
   alias-step-held k v =
       room-held (names c) t (put_pair t (aliases_at + 4 * c.label2label) x) (Ok (one_name Aliases c)) refusals.Names c.at refl
       (λ h. (alias-held 0 0 t c x k h l v, refl))
@@ -263,7 +264,7 @@ module _ (t : List ℕ) (c : MarkupLinkCollection) (x : LinkRow) (y : PairRow) (
   longer = subst (λ (n : ℕ). 4096 ≤ n) (sym (length-put-link t (7 * c.links) x)) l
 
   pub both-step :
-      Held 1 1 t c → LinkWithin c.at c.fill x → (s w : List ℕ)
+      Held 1 1 t c → LinkWithin c.at c.taken x → (s w : List ℕ)
       → step_of s (with_both_rows t c x y) w (both_added c)
       ≡ and_then (add_link (item_of s w x) (collection_of s t w c)) (add_destination (pair_of w y))
   both-step k v s w =
@@ -274,7 +275,7 @@ module _ (t : List ℕ) (c : MarkupLinkCollection) (x : LinkRow) (y : PairRow) (
       ∙ sym (ap (λ (z : Collected). and_then z (add_destination (pair_of w y))) (add-link-some (collection_of s t w c) (item_of s w x) (omega (arith, n)))))
       (λ h. sym (ap (λ (z : Collected). and_then z (add_destination (pair_of w y))) (add-link-none (collection_of s t w c) (item_of s w x) (omega (arith, n)))))
 
-  pub both-step-held : Held 1 1 t c → LinkWithin c.at c.fill x → PairWithin c.fill y → StepHeld c.at (with_both_rows t c x y) (both_added c)
+  pub both-step-held : Held 1 1 t c → LinkWithin c.at c.taken x → PairWithin c.taken y → StepHeld c.at (with_both_rows t c x y) (both_added c)
   both-step-held k v u =
       room-held c.links t (with_name_row Destinations (put_link t (7 * c.links) x) c y) (name_added Destinations (one_link c)) refusals.Links c.at refl
       (λ h. destination-step-held (put_link t (7 * c.links) x) (one_link c) y longer (link-held 0 1 t c x k h l v) u)

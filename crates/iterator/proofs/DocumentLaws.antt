@@ -80,7 +80,7 @@ module _ (render : ℕ) (s t w : List ℕ) where
 
   module _ (c : MarkupLinkCollection) (g : Gathered render s t w c) where
     -- no more bytes are taken than a document has and 512 numbered names need
-    filled : c.fill ≤ 18432
+    filled : c.taken ≤ 18432
     filled =
         let h = g.held in
         omega (arith, h.inside, h.references-few, h.targets-few, h.filled, h.tables.links-few, h.tables.names-few)
@@ -88,7 +88,7 @@ module _ (render : ℕ) (s t w : List ℕ) where
     pub aliases-held : AliasesHeld c.label2label c.label2dest t w
     aliases-held =
         let h = g.held.tables in
-        let f : c.fill ≤ room = omega (arith, filled) in
+        let f : c.taken ≤ room = omega (arith, filled) in
         record {
           roomy = g.roomy;
           few = h.names-few;
@@ -111,7 +111,6 @@ module _ (render : ℕ) (s t w : List ℕ) where
       pub references-held : ReferencesHeld c.links names s t' w
       references-held =
           record {
-            short = g.short;
             few = g.held.tables.links-few;
             links-within = links-within;
             names = record { roomy = (omega (arith, g.roomy.0), g.roomy.1); few = a.few; within = a.within };
@@ -160,8 +159,7 @@ module _ (render : ℕ) (s t w : List ℕ) where
     pub writing : r.size ≤ length o → Writing r.links s t w o
     writing h =
         record {
-          short = g.short;
-          roomy = g.roomy;
+          long = g.roomy.0;
           few = g.few;
           within = g.within;
           order = g.in_order;

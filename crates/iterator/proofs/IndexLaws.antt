@@ -1,19 +1,17 @@
 -- The laws of the index: names that are the same are in the same bucket, so that a row of another bucket has another name; one row more is
 -- put into it; it stays while the numbers that it stands in do, and the names. Looked up through it, a name has what it has.
 -- Assumes nothing.
+use Rattle.std.proofs.lemmas.Bool.{cases_eq}
 use Prim.Native.Nat.{ℕ, zero, suc, ◌+◌, ◌-◌, ◌*◌, ◌%◌, ◌<◌, ◌≤◌}
 use native.Mathlib.Omega.{arith}
 use Rattle.std.proofs.Common.{Option, Some, None, SomeIff}
 use Rattle.restructured_text.proofs.PartLaws.{part_length, put-length}
 use mathlib.Core.Path.{◌≡◌, refl, sym, ap, subst, ◌∙◌}
 use mathlib.Core.List.{List, [], ◌∷◌, ◌++◌}
-use mathlib.Core.Bool.{Bool, true, false}
 use mathlib.Core.Logic.{◌⊎◌, inl, inr}
-use lib.Dec.{eqb}
 use lib.ListN.{length, get_or, take, set, length-set, replicate}
 use borrow.Rule.Slice.PartMut.{mid_of, post_of, put_mid}
 use lib.Seq.{length-take-le, get_or-set_same, get_or-set_other}
-use borrow.Author.Tests.{eqb-true, eqb-false}
 use Rattle.restructured_text.specs.Strings.{part}
 use Rattle.std.proofs.lemmas.List.{get_or_append_left, get_or-append_right, get_or-take, get_or-replicate, length-replicate}
 use Rattle.iterator.specs.declared.rows.PairRow.{PairRow}
@@ -41,14 +39,6 @@ unfolding bucket_from
 bucket-small [] h g = g
 bucket-small (b ∷ x) h g = bucket-small x ((h * 9 + b) % 256) (omega arith)
 
--- two numbers are the same or not
-equal_or_not : (a b : ℕ) → (a ≡ b) ⊎ (a ≡ b → ⊥)
-equal_or_not a b = go (eqb a b) refl
-  where
-    go : (t : Bool) → eqb a b ≡ t → (a ≡ b) ⊎ (a ≡ b → ⊥)
-    go true e = inl (eqb-true a b e)
-    go false e = inr (eqb-false a b e)
-
 -- The last row of a bucket
 
 -- it is the same where the rows are of the same buckets
@@ -64,7 +54,7 @@ latest-agrees f f' b m p a v =
 -- a row of another bucket more
 latest-other : (f : ℕ → ℕ) (b m p : ℕ) → (f m ≡ b → ⊥) → Latest f b m p → Latest f b (m + 1) p
 latest-other f b m p ne v =
-    record { before = omega (arith, v.before); others = λ j h g e. go j h g e (equal_or_not j m); its = v.its }
+    record { before = omega (arith, v.before); others = λ j h g e. go j h g e (cases_eq j m); its = v.its }
   where
     go : (j : ℕ) → p ≤ j → j < m + 1 → f j ≡ b → (j ≡ m) ⊎ (j ≡ m → ⊥) → ⊥
     go j h g e (inl q) = ne (ap f (sym q) ∙ e)
@@ -122,7 +112,7 @@ module _ (f : ℕ → ℕ) (i b : ℕ) (t : List ℕ) (is : b ≡ f i) (few : i 
       ∙ get_or-set_other t (aliases_at + i) k (get_or t (lasts_at + b) 0) 0 (λ e. omega arith)
 
   index-more : b < 256 → IndexedBy f (i + 1) (with_row i b t)
-  index-more small = record { lasts = λ c h. last c h (equal_or_not c b); earlier = λ j h. before j h (equal_or_not j i) }
+  index-more small = record { lasts = λ c h. last c h (cases_eq c b); earlier = λ j h. before j h (cases_eq j i) }
     where
       last : (c : ℕ) → c < 256 → (c ≡ b) ⊎ (c ≡ b → ⊥) → Latest f c (i + 1) (get_or (with_row i b t) (lasts_at + c) 0)
       last c h (inl e) = rw (e, row_last small) (latest-own f b i (sym is))

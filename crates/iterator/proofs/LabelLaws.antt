@@ -21,21 +21,21 @@ use Rattle.iterator.proofs.NamesLaws.{numbered-length}
 -- y is what comes back behind the bytes that are taken, r how many of it are written
 pub numbered-label :
     (a : Span) (next : ℕ × Counters) (c : MarkupLinkCollection) (w y rest : List ℕ) (r : ℕ) → is_anonymous (part a w) ≡ true
-    → r ≡ length (numbered next.0) → y ≡ numbered next.0 ++ rest → c.fill ≤ length w
+    → r ≡ length (numbered next.0) → y ≡ numbered next.0 ++ rest → c.taken ≤ length w
     → LabelledBy a next c w
-    (record c { fill = c.fill + r; counters = next.1 })
-    (put_mid c.fill (length w - c.fill) w y)
-    (record { start = c.fill; len = r })
+    (record c { taken = c.taken + r; counters = next.1 })
+    (put_mid c.taken (length w - c.taken) w y)
+    (record { start = c.taken; len = r })
 numbered-label a next c w y rest r e f g h =
     let b = is_anonymous (part a w) in
     record {
       label =
-          put-here c.fill (length w - c.fill) w y r h (omega (arith, f, ap length g, length-append (numbered next.0) rest))
+          put-here c.taken (length w - c.taken) w y r h (omega (arith, f, ap length g, length-append (numbered next.0) rest))
           ∙ ap (take r) g
           ∙ take_at (numbered next.0) rest r (sym f)
           ∙ sym (picks_first b (numbered next.0) (part a w) e);
       within = (omega arith, omega (arith, f, numbered-length next.0));
-      kept = put-before c.fill (length w - c.fill) w y 0 c.fill (omega arith) h;
+      kept = put-before c.taken (length w - c.taken) w y 0 c.taken (omega arith) h;
       grows = omega arith;
       filled = omega (arith, f, numbered-length next.0, picks_first {A = ℕ} b 4 0 e);
       counters = sym (picks_first b next.1 c.counters e);

@@ -1,4 +1,5 @@
--- The laws that the layers above use; specs/Lib.antt lists them. The others serve the proofs here.
+-- The laws that the layers above use; specs/Lib.antt lists them. `Named` holds laws that docs/ names and that no other proof uses now. The
+-- others serve the proofs here.
 pub mod RowsLaws
 pub mod NamesLaws
 pub mod CollectLaws
@@ -21,4 +22,5 @@ pub mod OnceLaws
 pub mod OrderLaws
 pub mod DocumentLaws
 pub mod AcceptedLaws
+pub mod Named
 pub mod CasesHold

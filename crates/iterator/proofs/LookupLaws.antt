@@ -1,5 +1,6 @@
 -- The rows of looking up a name, from the last row back: what the rows up to one say goes by that row and by those before it.
 -- Assumes nothing.
+use Rattle.std.proofs.lemmas.List.{map_push}
 use Rattle.std.proofs.Common.{ℕ, zero, suc, ◌+◌, ◌*◌, ◌≤◌, ◌≡◌, refl, ap, sym, subst, ◌∙◌, arith, List, [], ◌∷◌, ◌++◌, map, length}
 use mathlib.Core.Path.{subst⁻¹}
 use Rattle.restructured_text.specs.Strings.{part}
@@ -7,7 +8,7 @@ use Rattle.iterator.specs.declared.rows.PairRow.{PairRow}
 use Rattle.iterator.specs.Resolve.{same, has, none, lookup}
 use Rattle.iterator.specs.Rows.{pair_at, pair_rows, pair_of, pairs_of, destinations_at, room, SpanWithin, PairWithin}
 use Rattle.iterator.specs.Inner.{NamesHeld}
-use Rattle.iterator.proofs.RowsLaws.{pairs-snoc, pairs-within-at, map_snoc}
+use Rattle.iterator.proofs.RowsLaws.{pairs-snoc, pairs-within-at}
 use Rattle.iterator.proofs.NamesLaws.{same_refl, same-other}
 use Rattle.iterator.proofs.ResolveLaws.{lookup-here, lookup-past, lookup-fewer}
 
@@ -18,7 +19,7 @@ one_more :
     ≡ pairs_of n destinations_at t w ++ pair_of w (pair_at t (destinations_at + 4 * n)) ∷ []
 one_more t w n =
     ap (map (pair_of w)) (pairs-snoc n destinations_at t)
-    ∙ map_snoc (pair_of w) (pair_rows n destinations_at t) (pair_at t (destinations_at + 4 * n))
+    ∙ map_push (pair_of w) (pair_rows n destinations_at t) (pair_at t (destinations_at + 4 * n))
 
 -- Looking up, from the last row back: of the first i rows the last is row j, which is r
 module _ (t w : List ℕ) (i j : ℕ) (r : PairRow) (e : r ≡ pair_at t (destinations_at + 4 * j)) (h : i ≡ j + 1) where

@@ -1,24 +1,26 @@
 -- The laws of names: which is anonymous, the bytes of a numbered one, and that two are the same where they are equal.
 -- Assumes nothing.
-use Rattle.std.proofs.Common.{ℕ, suc, ◌≡◌, ◌/◌, ◌<◌, ◌≤◌, refl, sym, ap, subst, ◌∙◌, arith, Bool, true, false, ◌&&◌, eqb, ltb, List, [], ◌∷◌, ◌++◌, length, get_or, drop, set, zero-add}
+use Rattle.std.proofs.Common.{ℕ, suc, ◌≡◌, ◌+◌, ◌*◌, ◌%◌, ◌/◌, ◌<◌, ◌≤◌, refl, sym, ap, subst, ◌∙◌, arith, Bool, true, false, ◌&&◌, eqb, ltb, List, [], ◌∷◌, ◌++◌, length, get_or, drop, set, zero-add}
 use lib.Seq.{sets, sets-eq}
 use borrow.Author.Tests.{eq-eqb, ne_eqb, eqb-true, lt-ltb, le-ltb}
 use Rattle.iterator.specs.Collect.{digit, decimal, numbered, is_anonymous}
+use Rattle.std.specs.List.{fold}
+use Rattle.iterator.specs.Index.{bucket_from}
 use Rattle.iterator.specs.Resolve.{same}
 
 -- Anonymous names: one of a single byte is, if the byte is `_`
-pub anonymous-one : (x : List ℕ) → length x ≡ 1 → eqb (get_or x 0 0) 0x5F ≡ is_anonymous x
+pub anonymous-one : (x : List ℕ) → length x ≡ 1 → get_or x 0 0 ≡ 0x5F → true ≡ is_anonymous x
 unfolding is_anonymous
-anonymous-one [] e = absurd (omega arith)
-anonymous-one (b ∷ []) e = refl
-anonymous-one (b ∷ c ∷ x) e = absurd (omega arith)
+anonymous-one [] e f = absurd (omega arith)
+anonymous-one (b ∷ []) e f = sym (eq-eqb b 0x5F f)
+anonymous-one (b ∷ c ∷ x) e f = absurd (omega arith)
 
 -- no other is
-pub anonymous-other : (x : List ℕ) → (length x ≡ 1 → ⊥) → eqb (length x) 1 ≡ is_anonymous x
+pub anonymous-other : (x : List ℕ) → (length x ≡ 1 → get_or x 0 0 ≡ 0x5F → ⊥) → false ≡ is_anonymous x
 unfolding is_anonymous
 anonymous-other [] h = refl
-anonymous-other (b ∷ []) h = absurd (h refl)
-anonymous-other (b ∷ c ∷ x) h = ne_eqb _ _ h
+anonymous-other (b ∷ []) h = sym (ne_eqb b 0x5F (h refl))
+anonymous-other (b ∷ c ∷ x) h = refl
 
 -- Numbered names
 
@@ -109,3 +111,11 @@ same-other x y h = go (same x y) refl
     go : (t : Bool) → same x y ≡ t → same x y ≡ false
     go true e = absurd (h (same-equal x y e))
     go false e = e
+
+-- The bucket of a name, by a fold that wraps after each step
+pub bucket-fold : (x : List ℕ) (h : ℕ) → fold (λ h b. (h * 9 % 256 + b) % 256) h x ≡ bucket_from h x
+unfolding bucket_from
+bucket-fold [] h = refl
+bucket-fold (b ∷ x) h =
+    let e : (h * 9 % 256 + b) % 256 ≡ (h * 9 + b) % 256 = omega arith in
+    bucket-fold x ((h * 9 % 256 + b) % 256) ∙ ap (λ k. bucket_from k x) e

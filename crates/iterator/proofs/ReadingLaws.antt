@@ -7,7 +7,7 @@ use Rattle.restructured_text.specs.declared.ParseError.{ParseError}
 use Rattle.restructured_text.specs.declared.ParseError.TheVariants.{NotFound, NoRoom}
 use Prim.Native.Nat.{ℕ, ◌+◌, ◌-◌, ◌<◌, ◌≤◌}
 use native.Mathlib.Omega.{arith}
-use mathlib.Core.Path.{◌≡◌, refl, sym, ap, ap₂, subst, subst⁻¹, ◌∙◌}
+use mathlib.Core.Path.{◌≡◌, refl, sym, ap, subst, subst⁻¹, ◌∙◌}
 use mathlib.Core.List.{List, ◌++◌, append-nil}
 use lib.ListN.{length, take, drop, length-drop, drop_of_length-le}
 use lib.Seq.{drop_at, drop-drop, length-take-le}
@@ -23,15 +23,15 @@ use Rattle.parse.specs.Link.{Kind, Scanned, found, link_of, scanned_of, Ends, le
 use Rattle.parse.specs.Forms.{rst}
 use Rattle.parse.specs.Scan.{scan_of}
 use Rattle.parse.specs.Inner.{first_of, second_of, link_end, Holds, TrueBehind, nothing_known}
-use Rattle.parse.specs.Links.{Placed, links_from, links_by, links_of}
+use Rattle.parse.specs.Links.{Placed, placed, links_from, links_by, links_of}
 use Rattle.parse.proofs.ScanLaws.{rst-consuming, scan-of-within, scan-of-room}
 use Rattle.parse.proofs.LinksLaws.{links-equation}
 use Rattle.parse.proofs.RoundLaws.{lent-enough}
 use Rattle.parse.proofs.OnwardLaws.{holds-nothing}
 use Rattle.iterator.specs.declared.collect.MarkupLinkCollection.{MarkupLinkCollection}
-use Rattle.iterator.specs.Collect.{Collection, Collected, collected, refused, collect_from, collect_all}
+use Rattle.iterator.specs.Collect.{Collection, Collected, collected, refused, collect_from, collect_all, add}
 use Rattle.iterator.specs.Rows.{link_rows, pair_rows, destinations_at, aliases_at, room, LinksWithin, PairsWithin}
-use Rattle.iterator.specs.Inner.{Held, collection_of, Roomy, Unmarked, nothing_yet, kind_of, skipped_by, consumed_by, Scannable, add_scanned, AddsScanned, Collects}
+use Rattle.iterator.specs.Inner.{Held, collection_of, Roomy, Unmarked, kind_of, skipped_by, consumed_by, Scannable, placed_behind, AddsScanned, Collects}
 use Rattle.iterator.proofs.RowsLaws.{pairs-kept, items_kept}
 use Rattle.iterator.proofs.CollectLaws.{alike}
 use Rattle.iterator.proofs.ScannedLaws.{link-is, end_is}
@@ -51,10 +51,10 @@ goes_by render s rest (refused number) = refl
 adds-first :
     (render n : ℕ) (s p : List ℕ) (c : Collection) (kind : Kind) (x y : List ℕ) (m k : ℕ)
     → collect_from render s c (links_by rst n p (found kind x y m k))
-    ≡ goes_on render s (links_from rst 0 (n + (m + k)) (drop (m + k) p)) (add_scanned render s n c (found kind x y m k))
+    ≡ goes_on render s (links_from rst 0 (n + (m + k)) (drop (m + k) p)) (add render s (placed n kind x y m k) c)
 unfolding collect_from
 adds-first render n s p c kind x y m k =
-    goes_by render s (links_from rst 0 (n + (m + k)) (drop (m + k) p)) (add_scanned render s n c (found kind x y m k))
+    goes_by render s (links_from rst 0 (n + (m + k)) (drop (m + k) p)) (add render s (placed n kind x y m k) c)
 
 -- all that is behind place a is replaced by y
 put_rest : (a : ℕ) (d y : List ℕ) → a ≤ length d → drop a (put_mid a (length d - a) d y) ≡ y
@@ -65,38 +65,43 @@ put_rest a d y h =
 
 -- Document s, work numbers t and work bytes w before a scan; its answer r, and y, what it left in the bytes that it was lent.
 module _ (s t w : List ℕ) (c : MarkupLinkCollection) (k : Held 0 0 t c) (h : c.at ≤ length s) (l : length s ≤ 16384) (q : Roomy t w) where
-  filled : c.fill + 16384 ≤ room
+  filled : c.taken + 16384 ≤ room
   filled = omega (arith, k.filled, k.inside, k.references-few, k.targets-few, k.tables.links-few, k.tables.names-few)
 
   -- what is collected, with what the scanner left behind it
-  scanned-kept : (y : List ℕ) → collection_of s t (put_mid c.fill (length w - c.fill) w y) c ≡ collection_of s t w c
+  scanned-kept : (y : List ℕ) → collection_of s t (put_mid c.taken (length w - c.taken) w y) c ≡ collection_of s t w c
   scanned-kept y =
-      let e = put-before c.fill (length w - c.fill) w y 0 c.fill (omega arith) (omega (arith, filled, q.1)) in
+      let e = put-before c.taken (length w - c.taken) w y 0 c.taken (omega arith) (omega (arith, filled, q.1)) in
       alike
-      (items_kept c.at c.fill (link_rows c.links 0 t) s w (put_mid c.fill (length w - c.fill) w y) k.tables.links-within e)
-      (pairs-kept c.fill (pair_rows c.label2dest destinations_at t) w (put_mid c.fill (length w - c.fill) w y) k.tables.destinations-within e)
-      (pairs-kept c.fill (pair_rows c.label2label aliases_at t) w (put_mid c.fill (length w - c.fill) w y) k.tables.aliases-within e)
+      (items_kept c.at c.taken (link_rows c.links 0 t) s w (put_mid c.taken (length w - c.taken) w y) k.tables.links-within e)
+      (pairs-kept c.taken (pair_rows c.label2dest destinations_at t) w (put_mid c.taken (length w - c.taken) w y) k.tables.destinations-within e)
+      (pairs-kept c.taken (pair_rows c.label2label aliases_at t) w (put_mid c.taken (length w - c.taken) w y) k.tables.aliases-within e)
       refl
       refl
 
   -- what it left stands behind the bytes that are taken
-  scanned-rest : (y : List ℕ) → drop c.fill (put_mid c.fill (length w - c.fill) w y) ≡ y
-  scanned-rest y = put_rest c.fill w y (omega (arith, filled, q.1))
+  scanned-rest : (y : List ℕ) → drop c.taken (put_mid c.taken (length w - c.taken) w y) ≡ y
+  scanned-rest y = put_rest c.taken w y (omega (arith, filled, q.1))
 
-  module _ (r : Result Link ParseError) (y : List ℕ) (e : scanned_of r y ≡ lent (take (length s - c.at) (drop c.at s)) (take (length w - c.fill) (drop c.fill w)) (scan_of (take (length s - c.at) (drop c.at s)))) where
+  module _ (r : Result Link ParseError) (y : List ℕ) (e : scanned_of r y ≡ lent (take (length s - c.at) (drop c.at s)) (take (length w - c.taken) (drop c.taken w)) (scan_of (take (length s - c.at) (drop c.at s)))) where
     scans : scanned_of r y ≡ scan_of (drop c.at s)
     scans =
         e
-        ∙ sym (lent-enough (take (length s - c.at) (drop c.at s)) (take (length w - c.fill) (drop c.fill w)) (scan_of (take (length s - c.at) (drop c.at s))) long)
+        ∙ sym (lent-enough (take (length s - c.at) (drop c.at s)) (take (length w - c.taken) (drop c.taken w)) (scan_of (take (length s - c.at) (drop c.at s))) long)
         ∙ ap scan_of (part-from s c.at)
       where
-        long : length (take (length s - c.at) (drop c.at s)) ≤ length (take (length w - c.fill) (drop c.fill w))
+        long : length (take (length s - c.at) (drop c.at s)) ≤ length (take (length w - c.taken) (drop c.taken w))
         long =
-            omega (arith, ap length (part-from s c.at), ap length (part-from w c.fill), length-drop c.at s, length-drop c.fill w, filled, q.1)
+            omega (arith, ap length (part-from s c.at), ap length (part-from w c.taken), length-drop c.at s, length-drop c.taken w, filled, q.1)
 
     -- the room is never too short
     pub room-always : r ≡ Err NoRoom → ⊥
     room-always f = scan-of-room (drop c.at s) (sym scans ∙ ap (λ (z : Result Link ParseError). scanned_of z y) f)
+
+-- nothing is collected
+abbrev pub nothing_yet : MarkupLinkCollection
+nothing_yet =
+    record { at = 0; taken = 0; links = 0; label2dest = 0; label2label = 0; counters = record { references = 0; targets = 0 } }
 
 -- The document s is read up to place c.at, with work numbers t and work bytes w: what all links give is what those behind it add to c.
 pub record Reading (render : ℕ) (s t w : List ℕ) (c : MarkupLinkCollection) : Type 0 where
@@ -131,8 +136,8 @@ reading-starts render s t w c l q e =
       goes = refl;
     })
 
-pub starts : (c : MarkupLinkCollection) → (c.at ≡ 0) × ((c.fill ≡ 0) × ((c.links ≡ 0) × ((c.label2dest ≡ 0) × ((c.label2label ≡ 0) × ((c.counters.references ≡ 0) × (c.counters.targets ≡ 0)))))) → c ≡ nothing_yet
-starts c e = λ i. record { at = e.0 i; fill = e.1.0 i; links = e.1.1.0 i; label2dest = e.1.1.1.0 i; label2label = e.1.1.1.1.0 i; counters = record { references = e.1.1.1.1.1.0 i; targets = e.1.1.1.1.1.1 i } }
+pub starts : (c : MarkupLinkCollection) → (c.at ≡ 0) × ((c.taken ≡ 0) × ((c.links ≡ 0) × ((c.label2dest ≡ 0) × ((c.label2label ≡ 0) × ((c.counters.references ≡ 0) × (c.counters.targets ≡ 0)))))) → c ≡ nothing_yet
+starts c e = λ i. record { at = e.0 i; taken = e.1.0 i; links = e.1.1.0 i; label2dest = e.1.1.1.0 i; label2label = e.1.1.1.1.0 i; counters = record { references = e.1.1.1.1.1.0 i; targets = e.1.1.1.1.1.1 i } }
 
 -- there nothing is known, and no place is marked
 pub known-starts :
@@ -159,9 +164,9 @@ module _ (render : ℕ) (s t w : List ℕ) (c : MarkupLinkCollection) (v : Readi
       }
 
   -- Its answer r, and y, what it left in the bytes that it was lent.
-  module _ (r : Result Link ParseError) (y : List ℕ) (e : scanned_of r y ≡ lent (take (length s - c.at) (drop c.at s)) (take (length w - c.fill) (drop c.fill w)) (scan_of (take (length s - c.at) (drop c.at s)))) where
+  module _ (r : Result Link ParseError) (y : List ℕ) (e : scanned_of r y ≡ lent (take (length s - c.at) (drop c.at s)) (take (length w - c.taken) (drop c.taken w)) (scan_of (take (length s - c.at) (drop c.at s)))) where
     abbrev w' : List ℕ
-    w' = put_mid c.fill (length w - c.fill) w y
+    w' = put_mid c.taken (length w - c.taken) w y
 
     found-by : scanned_of r y ≡ scan_of (drop c.at s)
     found-by = scans s t w c v.held v.inside v.short v.roomy r y e
@@ -189,10 +194,10 @@ module _ (render : ℕ) (s t w : List ℕ) (c : MarkupLinkCollection) (v : Readi
     -- where a link was found
     module _ (x : Link) (f : r ≡ Ok x) where
       abbrev found_is : Scanned
-      found_is = found (kind_of x) (part (first_of x) (drop c.fill w')) (part (second_of x) (drop c.fill w')) (skipped_by x) (consumed_by x)
+      found_is = found (kind_of x) (part (first_of x) (drop c.taken w')) (part (second_of x) (drop c.taken w')) (skipped_by x) (consumed_by x)
 
       link : scan_of (drop c.at s) ≡ found_is
-      link = sym (ap (λ (z : Result Link ParseError). scanned_of z y) (sym f) ∙ found-by) ∙ ap (link_of x) (sym (scanned-rest s t w c v.held v.inside v.short v.roomy y)) ∙ link-is x (drop c.fill w')
+      link = sym (ap (λ (z : Result Link ParseError). scanned_of z y) (sym f) ∙ found-by) ∙ ap (link_of x) (sym (scanned-rest s t w c v.held v.inside v.short v.roomy y)) ∙ link-is x (drop c.taken w')
 
       -- it has at least one byte, and ends in the document
       pub inside : (0 < link_end x) × (c.at + link_end x ≤ length s)
@@ -224,15 +229,15 @@ module _ (render : ℕ) (s t w : List ℕ) (c : MarkupLinkCollection) (v : Readi
       rest_of = links_from rst 0 (c.at + link_end x) (drop (c.at + link_end x) s)
 
       -- what all links add, by what this one adds
-      goes : collect_all render s (links_of s) ≡ goes_on render s rest_of (add_scanned render s c.at (collection_of s t w' c) (link_of x (drop c.fill w')))
+      goes : collect_all render s (links_of s) ≡ goes_on render s rest_of (add render s (placed_behind c.at x (drop c.taken w')) (collection_of s t w' c))
       unfolding scan_of
       goes =
           v.goes
           ∙ ap (collect_from render s (collection_of s t w c)) (links-equation rst rst-consuming c.at (drop c.at s) ∙ ap (links_by rst c.at (drop c.at s)) link)
           ∙ adds-first render c.at s (drop c.at s) (collection_of s t w c) (kind_of x) _ _ (skipped_by x) (consumed_by x)
-          ∙ ap (λ (n : ℕ). goes_on render s (links_from rst 0 (c.at + n) (drop n (drop c.at s))) (add_scanned render s c.at (collection_of s t w c) found_is)) (sym (end_is x))
-          ∙ ap (λ (z : List ℕ). goes_on render s (links_from rst 0 (c.at + link_end x) z) (add_scanned render s c.at (collection_of s t w c) found_is)) (drop-drop (link_end x) c.at s)
-          ∙ ap₂ (λ (z : Collection) (u : Scanned). goes_on render s rest_of (add_scanned render s c.at z u)) (sym kept) (sym (link-is x (drop c.fill w')))
+          ∙ ap (λ (n : ℕ). goes_on render s (links_from rst 0 (c.at + n) (drop n (drop c.at s))) (add render s (placed_behind c.at x (drop c.taken w')) (collection_of s t w c))) (sym (end_is x))
+          ∙ ap (λ (z : List ℕ). goes_on render s (links_from rst 0 (c.at + link_end x) z) (add render s (placed_behind c.at x (drop c.taken w')) (collection_of s t w c))) (drop-drop (link_end x) c.at s)
+          ∙ ap (λ (z : Collection). goes_on render s rest_of (add render s (placed_behind c.at x (drop c.taken w')) z)) (sym kept)
 
       module _ (t'' w'' : List ℕ) where
         -- it is added

@@ -27,7 +27,7 @@ use Rattle.iterator.specs.Rows.{
   LinkWithin,
   LinksWithin,
 }
-use Rattle.iterator.specs.Inner.{Writable, Fields, size_of, InOrder}
+use Rattle.iterator.specs.Inner.{Fields, size_of, InOrder}
 use Rattle.iterator.proofs.RowsLaws.{links-next}
 
 -- The four fields as one number, put together by shifts
@@ -66,6 +66,10 @@ head-written s c t d b o o' h e f =
 -- A reference's shown text is the text or the destination
 pub shown-le : (text dest : List ℕ) (n : ℕ) → length text ≤ n → length dest ≤ n → length (shown_of text dest) ≤ n
 shown-le text dest n h k = by-test (λ (l : List ℕ). length l ≤ n) (eqb (length text) 0) dest text (λ _. k) (λ _. h)
+
+-- a row whose goal is a destination can be written: its strings stand in the document and in the work bytes
+abbrev pub Writable : List ℕ → List ℕ → LinkRow → Type 0
+Writable s w x = record { short : length s ≤ 16384; roomy : room ≤ length w; within : LinkWithin (length s) room x }
 
 -- The strings of a row that can be written
 module _ (s w : List ℕ) (x : LinkRow) (h : Writable s w x) where
@@ -207,17 +211,16 @@ module _ (n : ℕ) (s t w o₀ o : List ℕ) (i end at : ℕ) (v : Emitted n s t
 
     -- so that it can be written
     pub can-emit :
-        length s ≤ 16384 → room ≤ length w
-        → record {
-          writable : Writable s w x;
+        record {
+          within : LinkWithin (length s) room x;
           order : end ≤ x.place;
           room : length (record_of end (hyperlink_of s w x)) ≤ length (mid_of at (length o - at) o);
         }
-    can-emit short roomy =
+    can-emit =
         let g : at ≤ length o = omega (arith, emit-length, v.fits, v.inside) in
         let l : length (mid_of at (length o - at) o) ≡ length o - at = part_length at (length o - at) o (omega arith) in
         record {
-          writable = record { short = short; roomy = roomy; within = emit-within.0 };
+          within = emit-within.0;
           order = emit-order.0;
           room = omega (arith, room-left, v.fits, emit-length);
         }

@@ -1,5 +1,6 @@
 -- The laws of references: what one link more says, that it is kept or dropped, and what the rows are then.
 -- Assumes nothing.
+use Rattle.std.proofs.lemmas.List.{map_push}
 use Rattle.std.proofs.Common.{ℕ, ◌+◌, ◌-◌, ◌*◌, ◌<◌, ◌≤◌, ◌≡◌, refl, sym, ap, ◌∙◌, arith, List, [], ◌∷◌, ◌++◌, map, append-nil, length}
 use mathlib.Core.Path.{ap₂}
 use lib.Seq.{append_snoc}
@@ -30,16 +31,7 @@ use Rattle.iterator.specs.Rows.{
   put_link,
 }
 use Rattle.iterator.specs.Index.{Indexed, TablesKept}
-use Rattle.iterator.specs.Inner.{
-  Roomy,
-  InIndex,
-  goal_of,
-  Keeping,
-  kept,
-  size_of,
-  ReferencesHeld,
-  ReferencesResolved,
-}
+use Rattle.iterator.specs.Inner.{Roomy, goal_of, Keeping, kept, size_of, ReferencesHeld, ReferencesResolved}
 use Rattle.iterator.proofs.RowsLaws.{
   links-agree,
   links-next,
@@ -49,7 +41,6 @@ use Rattle.iterator.proofs.RowsLaws.{
   pairs-link-before,
   links-within-snoc,
   length-put-link,
-  map_snoc,
 }
 use Rattle.iterator.proofs.IndexLaws.{index-put, names-kept}
 use Rattle.iterator.proofs.RecordLaws.{size_few}
@@ -130,16 +121,8 @@ module _ (n i destinations : ℕ) (s t w : List ℕ) (r : Resolved) (v : Resolvi
     row_within = rows-within.0
 
     -- its goal can be looked up
-    pub can-look : record { index : InIndex destinations t w; within : SpanWithin room x.goal }
-    can-look =
-        record {
-          index =
-              record {
-                held = record { roomy = v.roomy; few = v.destinations-few; within = v.destinations-within };
-                indexed = v.indexed;
-              };
-          within = row_within.1.1;
-        }
+    pub can-look : SpanWithin room x.goal
+    can-look = row_within.1.1
 
     items : items_of (n - i) (7 * i) s t w ≡ item_of s w x ∷ items_of (n - (i + 1)) (7 * (i + 1)) s t w
     items = ap (map (item_of s w)) (links-next n i t x ex more)
@@ -183,7 +166,7 @@ module _ (n i destinations : ℕ) (s t w : List ℕ) (r : Resolved) (v : Resolvi
       kept-destinations = pairs-link-before destinations destinations_at (7 * r.links) t y (omega (arith, v.before, v.few))
 
       kept_in : hyperlinks_in (r.links + 1) s (put_link t (7 * r.links) y) w ≡ hyperlinks_in r.links s t w ++ hyperlink_of s w y ∷ []
-      kept_in = ap (map (hyperlink_of s w)) kept-rows ∙ map_snoc (hyperlink_of s w) (link_rows r.links 0 t) y
+      kept_in = ap (map (hyperlink_of s w)) kept-rows ∙ map_push (hyperlink_of s w) (link_rows r.links 0 t) y
 
       kept-links :
           resolve_references (pairs_of destinations destinations_at t w) (items_of (n - i) (7 * i) s t w)
@@ -214,11 +197,11 @@ module _ (n i destinations : ℕ) (s t w : List ℕ) (r : Resolved) (v : Resolvi
           }
 
     -- It is kept, and goes to a goal.
-    pub can-keep : (goal : Span) → SpanWithin room goal → Keeping (record x { goal = goal }) r s t w
+    pub can-keep : (goal : Span) → SpanWithin room goal → Keeping (record x { goal = goal }) r s t
     can-keep goal h =
         record {
-          roomy = v.roomy;
-          writable = record { short = v.short; roomy = v.roomy.1; within = (row_within.0, (row_within.1.0, h)) };
+          long = v.roomy.0;
+          within = (row_within.0, (row_within.1.0, h));
           few = omega (arith, v.before, v.few);
           size = size_small;
         }
@@ -248,7 +231,7 @@ module _ (n destinations : ℕ) (s t₀ t w : List ℕ) (i : ℕ) (r : Resolved)
       → References n destinations s t₀ t' w (i + 1) k
   references-more goal h e k t' ek et =
       let y : LinkRow = record x { goal = goal } in
-      let within : LinkWithin (length s) room y = (can-keep n i destinations s t w r v.held x ex more goal h).writable.within in
+      let within : LinkWithin (length s) room y = (can-keep n i destinations s t w r v.held x ex more goal h).within in
       let z = ap (resolve_references (pairs_of destinations destinations_at t w)) (items n i destinations s t w r v.held x ex more)
       ∙ next-found _ s w x _ goal e in
       rw (ek, et) (record {
@@ -259,11 +242,11 @@ module _ (n destinations : ℕ) (s t₀ t w : List ℕ) (i : ℕ) (r : Resolved)
 
 -- they start once the names are in the index, while the tables are kept
 pub references-start :
-    (n destinations : ℕ) (s t t' w : List ℕ) → ReferencesHeld n destinations s t w → length t' ≡ length t
+    (n destinations : ℕ) (s t t' w : List ℕ) → length s ≤ 16384 → ReferencesHeld n destinations s t w → length t' ≡ length t
     → TablesKept t t' → Indexed destinations t' w → (r : Resolved) → (r.links ≡ 0) × (r.size ≡ 0)
     → References n destinations s t t' w 0 r
 unfolding link_rows LinksWithin size_of
-references-start n destinations s t t' w h l kept x r z =
+references-start n destinations s t t' w short h l kept x r z =
     let e : n - 0 ≡ n = omega arith in
     let links : link_rows n 0 t' ≡ link_rows n 0 t = links-agree n 0 t t' (λ k g u. kept k (omega (arith, h.few))) in
     let rows : pair_rows destinations destinations_at t' ≡ pair_rows destinations destinations_at t =
@@ -275,7 +258,7 @@ references-start n destinations s t t' w h l kept x r z =
       held =
           record {
             roomy = names.roomy;
-            short = h.short;
+            short = short;
             before = omega arith;
             inside = omega arith;
             few = h.few;

@@ -3,7 +3,7 @@
 -- Assumes nothing.
 use Prim.Native.Nat.{ℕ, zero, suc, ◌+◌, ◌-◌, ◌*◌, ◌<◌, ◌≤◌}
 use mathlib.Core.Path.{◌≡◌, refl, sym, ap, subst, ◌∙◌}
-use mathlib.Core.List.{List, [], ◌∷◌, ◌++◌, map, map-append}
+use mathlib.Core.List.{List, [], ◌∷◌, ◌++◌, map}
 use native.Mathlib.Nat.{not-suc-le-zero}
 use native.Mathlib.Omega.{arith}
 use lib.ListN.{length, get_or, take, set, length-set}
@@ -365,7 +365,3 @@ items_kept m fill (x ∷ rows) s w w' v e = λ i. item-kept m fill x s w w' v.0 
 -- Rows of strings in no more than 65,536 bytes can be put.
 pub pair_small : (n : ℕ) (x : PairRow) → PairWithin n x → n ≤ 65536 → PairSmall x
 pair_small n x w h = (omega (arith, w.0.0), omega (arith, w.1.0))
-
--- a list with one more at its end, mapped
-pub map_snoc : {A B : Type 0} (f : A → B) (xs : List A) (x : A) → map f (xs ++ x ∷ []) ≡ map f xs ++ f x ∷ []
-map_snoc f xs x = map-append f xs (x ∷ [])

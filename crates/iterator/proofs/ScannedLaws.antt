@@ -15,9 +15,9 @@ use Rattle.parse.specs.Inner.{first_of, second_of, link_end}
 use Rattle.iterator.specs.declared.rows.PairRow.{PairRow}
 use Rattle.iterator.specs.declared.rows.LinkRow.{LinkRow}
 use Rattle.iterator.specs.declared.collect.MarkupLinkCollection.{MarkupLinkCollection}
-use Rattle.iterator.specs.Collect.{add_of}
+use Rattle.iterator.specs.Collect.{add_of, add}
 use Rattle.iterator.specs.Rows.{pair_rows, link_rows, destinations_at, aliases_at}
-use Rattle.iterator.specs.Inner.{Step, StepHeld, collection_of, step_of, link_added, with_link_row, both_added, with_both_rows, Addable, placed_of, kind_of, skipped_by, consumed_by, row_of, read_to, Scannable, add_scanned, AddsScanned}
+use Rattle.iterator.specs.Inner.{Step, StepHeld, collection_of, step_of, link_added, with_link_row, both_added, with_both_rows, Addable, placed_of, kind_of, skipped_by, consumed_by, row_of, read_to, Scannable, placed_behind, AddsScanned}
 use Rattle.iterator.proofs.RowsLaws.{pairs-within-wider, links-within-wider}
 use Rattle.iterator.proofs.CollectLaws.{held-wider, step_by, step-held-by, link-step, link-step-held, both-step, both-step-held}
 
@@ -61,9 +61,9 @@ module _ (t w : List ℕ) (c : MarkupLinkCollection) (x : Link) (p : Scannable t
                   record {
                     links-few = k.tables.links-few;
                     names-few = k.tables.names-few;
-                    links-within = links-within-wider c.at (c.at + link_end x) c.fill (c.fill + consumed_by x) (link_rows c.links 0 t) (omega arith) (omega arith) k.tables.links-within;
-                    destinations-within = pairs-within-wider c.fill (c.fill + consumed_by x) (pair_rows c.label2dest destinations_at t) (omega arith) k.tables.destinations-within;
-                    aliases-within = pairs-within-wider c.fill (c.fill + consumed_by x) (pair_rows c.label2label aliases_at t) (omega arith) k.tables.aliases-within;
+                    links-within = links-within-wider c.at (c.at + link_end x) c.taken (c.taken + consumed_by x) (link_rows c.links 0 t) (omega arith) (omega arith) k.tables.links-within;
+                    destinations-within = pairs-within-wider c.taken (c.taken + consumed_by x) (pair_rows c.label2dest destinations_at t) (omega arith) k.tables.destinations-within;
+                    aliases-within = pairs-within-wider c.taken (c.taken + consumed_by x) (pair_rows c.label2label aliases_at t) (omega arith) k.tables.aliases-within;
                   };
               inside = p.inside;
               references-few = k.references-few;
@@ -80,15 +80,14 @@ module _ (t w : List ℕ) (c : MarkupLinkCollection) (x : Link) (p : Scannable t
   row-adds :
       (render : ℕ) (s : List ℕ)
       → add_of (kind_of x) render s (placed_of (kind_of x) (row_of x c) w) (collection_of s t w (read_to x c))
-      ≡ add_scanned render s c.at (collection_of s t w c) (link_of x (drop c.fill w))
+      ≡ add render s (placed_behind c.at x (drop c.taken w)) (collection_of s t w c)
   row-adds render s =
       ap
       (λ (z : List ℕ). add_of (kind_of x) render s (found_at z (part (row_of x c).goal w)) (collection_of s t w c))
-      (ap (take (first_of x).len) (sym (drop-drop (first_of x).start c.fill w)))
+      (ap (take (first_of x).len) (sym (drop-drop (first_of x).start c.taken w)))
       ∙ ap
-      (λ (z : List ℕ). add_of (kind_of x) render s (found_at (part (first_of x) (drop c.fill w)) z) (collection_of s t w c))
-      (ap (take (second_of x).len) (sym (drop-drop (second_of x).start c.fill w)))
-      ∙ sym (ap (add_scanned render s c.at (collection_of s t w c)) (link-is x (drop c.fill w)))
+      (λ (z : List ℕ). add_of (kind_of x) render s (found_at (part (first_of x) (drop c.taken w)) z) (collection_of s t w c))
+      (ap (take (second_of x).len) (sym (drop-drop (second_of x).start c.taken w)))
     where
       found_at : List ℕ → List ℕ → Placed
       found_at y z = record { place = c.at + skipped_by x; kind = kind_of x; first = y; second = z; consumed = consumed_by x }

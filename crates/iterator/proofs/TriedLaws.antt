@@ -1,6 +1,7 @@
 -- The rows of one step of the walk through the aliases: what the rows that are left say where the target of the next has a destination,
 -- which is then stored for the alias, and where it has none, so that the alias is passed.
 -- Assumes nothing.
+use Rattle.std.proofs.lemmas.List.{map_push}
 use Prim.Native.Nat.{ℕ, suc, ◌+◌, ◌-◌, ◌*◌, ◌<◌, ◌≤◌}
 use native.Mathlib.Omega.{arith}
 use mathlib.Core.Path.{◌≡◌, ap, ap₂, sym, subst, subst⁻¹, ◌∙◌}
@@ -25,8 +26,8 @@ use Rattle.iterator.specs.Rows.{
   PairWithin,
   PairsWithin,
 }
-use Rattle.iterator.specs.Inner.{Roomy, Lookable, goes_on, left_of, queue_of, walk_of, Without, Walking, Tryable, steps_left, LinksKept, PairSmall}
-use Rattle.iterator.proofs.RowsLaws.{length-put-pair, length_pairs, pairs-put, pairs-pair-after, pairs-pair-before, links-pair-after, pairs-within-snoc, pair_small, map_snoc}
+use Rattle.iterator.specs.Inner.{Roomy, goes_on, left_of, queue_of, walk_of, Without, Walking, Tryable, steps_left, LinksKept, PairSmall}
+use Rattle.iterator.proofs.RowsLaws.{length-put-pair, length_pairs, pairs-put, pairs-pair-after, pairs-pair-before, links-pair-after, pairs-within-snoc, pair_small}
 use Rattle.iterator.proofs.ResolveLaws.{goes-miss, goes-hit}
 use Rattle.iterator.proofs.LookupLaws.{none-fewer}
 
@@ -112,13 +113,8 @@ module _ (t w : List ℕ) (v : Walk) (p : Tryable t w v) (x : PairRow) (e : x �
   pub tried-inside : x.to.start + x.to.len ≤ length w
   tried-inside = omega (arith, within-next.0.1.0, p.walking.roomy.1)
 
-  pub tried-lookable : (name : List ℕ) → name ≡ part x.to w → Lookable name v.known v.destinations t w
-  tried-lookable name f =
-      record {
-        held = record { roomy = p.walking.roomy; few = omega arith; within = p.walking.destinations-within };
-        before = p.walking.known-few;
-        others = ap (λ (n : List ℕ). lookup n (pairs_of v.known destinations_at t w)) f ∙ without-next.0;
-      }
+  pub tried-others : (name : List ℕ) → name ≡ part x.to w → lookup name (pairs_of v.known destinations_at t w) ≡ none
+  tried-others name f = ap (λ (n : List ℕ). lookup n (pairs_of v.known destinations_at t w)) f ∙ without-next.0
 
   queue-next : queue_of t w v ≡ pair_of w x ∷ rest_of t w v
   queue-next = ap (λ (rows : List PairRow). map (pair_of w) rows ++ pairs_of v.passed aliases_at t w) rows_next
@@ -161,7 +157,7 @@ module _ (t w : List ℕ) (v : Walk) (p : Tryable t w v) (x : PairRow) (e : x �
   passed-queue : queue_of (put_pair t (aliases_at + 4 * v.passed) x) w (passed_one v) ≡ rest_of t w v ++ pair_of w x ∷ []
   passed-queue =
       ap₂ (λ (a b : List PairRow). map (pair_of w) a ++ map (pair_of w) b) passed-behind passed-rows
-      ∙ ap (λ (l : List Pair). map (pair_of w) (behind_rows t v) ++ l) (map_snoc (pair_of w) (pair_rows v.passed aliases_at t) x)
+      ∙ ap (λ (l : List Pair). map (pair_of w) (behind_rows t v) ++ l) (map_push (pair_of w) (pair_rows v.passed aliases_at t) x)
       ∙ sym (append_assoc (map (pair_of w) (behind_rows t v)) (pairs_of v.passed aliases_at t w) (pair_of w x ∷ []))
 
   passed-walk :
@@ -175,7 +171,7 @@ module _ (t w : List ℕ) (v : Walk) (p : Tryable t w v) (x : PairRow) (e : x �
       lookup (part x.to w) (stored_in t w v) ≡ none
       → Without (pairs_of v.fresh destinations_at t w) (map (pair_of w) (pair_rows v.passed aliases_at t ++ x ∷ []))
   passed-more g =
-      subst⁻¹ (Without (pairs_of v.fresh destinations_at t w)) (map_snoc (pair_of w) (pair_rows v.passed aliases_at t) x)
+      subst⁻¹ (Without (pairs_of v.fresh destinations_at t w)) (map_push (pair_of w) (pair_rows v.passed aliases_at t) x)
       (without-snoc (pairs_of v.fresh destinations_at t w) (pairs_of v.passed aliases_at t w) (pair_of w x) p.walking.passed-without
       (none-fewer t w (part x.to w) v.fresh (v.destinations - v.fresh) v.destinations (omega (arith, p.walking.fresh-few)) g))
 
@@ -262,7 +258,7 @@ module _ (t w : List ℕ) (v : Walk) (p : Tryable t w v) (x : PairRow) (e : x �
     stored-walk g =
         ap₂ (goes_on 0)
         (ap₂ (λ (a b : List PairRow). map (pair_of w) a ++ map (pair_of w) b) (stored-behind stored_row) (stored-passed stored_row))
-        (ap (map (pair_of w)) (stored-rows stored_row) ∙ map_snoc (pair_of w) (pair_rows v.destinations destinations_at t) stored_row)
+        (ap (map (pair_of w)) (stored-rows stored_row) ∙ map_push (pair_of w) (pair_rows v.destinations destinations_at t) stored_row)
         ∙ sym (walk-next ∙ goes-hit (stored_in t w v) v.misses (pair_of w x) (rest_of t w v) misses-fewer (part to w) g)
 
     pub stored-small : PairSmall stored_row

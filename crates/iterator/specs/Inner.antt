@@ -8,7 +8,7 @@ use Rattle.parse.specs.declared.Link.{Link}
 use Rattle.parse.specs.declared.Link.TheVariants.{Text2Dest, TextLabel2Dest, Text2Label, Label2Dest, Label2Label}
 use Rattle.parse.specs.declared.refusal.Refusal.{Refusal}
 use Rattle.parse.specs.declared.refusal.Refusal.TheVariants as refusals
-use Rattle.parse.specs.Link.{Kind, text2dest, text-label2dest, text2label, label2dest, label2label, Scanned, found, nothing, no_room, LinkEnds, link_of}
+use Rattle.parse.specs.Link.{Kind, text2dest, text-label2dest, text2label, label2dest, label2label, LinkEnds}
 use Rattle.parse.specs.Links.{Placed, placed, links_of}
 use Rattle.parse.specs.Inner.{first_of, second_of, link_end}
 use Rattle.parse.specs.Refusal.{number_of, bytes_of}
@@ -18,8 +18,8 @@ use Rattle.iterator.specs.declared.rows.LinkKind.TheVariants.{Direct, Reference,
 use Rattle.iterator.specs.declared.counters.Counters.{Counters}
 use Rattle.iterator.specs.declared.Outcome.{Outcome}
 use Rattle.iterator.specs.declared.collect.MarkupLinkCollection.{MarkupLinkCollection}
-use Rattle.iterator.specs.declared.collect.Table.{Table}
-use Rattle.iterator.specs.declared.collect.Table.TheVariants.{Destinations, Aliases}
+use Rattle.iterator.specs.declared.rows.Table.{Table}
+use Rattle.iterator.specs.declared.rows.Table.TheVariants.{Destinations, Aliases}
 use Rattle.iterator.specs.declared.resolve.Walk.{Walk}
 use Rattle.iterator.specs.declared.resolve.Resolved.{Resolved}
 use Rattle.iterator.specs.Collect.{
@@ -28,6 +28,7 @@ use Rattle.iterator.specs.Collect.{
   collected,
   refused,
   add_of,
+  add,
   collect_all,
   is_anonymous,
   numbered,
@@ -37,7 +38,6 @@ use Rattle.iterator.specs.Collect.{
 use Rattle.iterator.specs.Records.{records_of}
 use Rattle.iterator.specs.Resolve.{Destination, has, none, lookup, search, hit, missed, resolve_from, Hyperlink}
 use Rattle.iterator.specs.Document.{Verdict, verdict}
-use Rattle.iterator.specs.Index.{Indexed}
 use Rattle.iterator.specs.Rows.{pair_at, pair_rows, link_rows, pairs_of, items_of, hyperlinks_in, destinations_at, aliases_at, text_of, room, SpanWithin, PairsWithin, LinkWithin, LinksWithin, put_link, put_pair}
 
 -- rows whose numbers fit into the work numbers
@@ -89,9 +89,9 @@ step_of s t w (Err e) = refused (number_of e)
 pub record Tables (t : List ℕ) (c : MarkupLinkCollection) : Type 0 where
   pub links-few : c.links ≤ 256
   pub names-few : c.label2dest + c.label2label ≤ 256
-  pub links-within : LinksWithin c.at c.fill (link_rows c.links 0 t)
-  pub destinations-within : PairsWithin c.fill (pair_rows c.label2dest destinations_at t)
-  pub aliases-within : PairsWithin c.fill (pair_rows c.label2label aliases_at t)
+  pub links-within : LinksWithin c.at c.taken (link_rows c.links 0 t)
+  pub destinations-within : PairsWithin c.taken (pair_rows c.label2dest destinations_at t)
+  pub aliases-within : PairsWithin c.taken (pair_rows c.label2label aliases_at t)
 
 -- and no more bytes are taken than were read and than numbered names need; of the references that were numbered all but i, and of the
 -- blocks all but j, are in the tables
@@ -100,7 +100,7 @@ pub record Held (i j : ℕ) (t : List ℕ) (c : MarkupLinkCollection) : Type 0 w
   pub inside : c.at ≤ 16384
   pub references-few : c.counters.references ≤ c.links + i
   pub targets-few : c.counters.targets ≤ c.label2dest + c.label2label + j
-  pub filled : c.fill ≤ c.at + 4 * (c.counters.references + c.counters.targets)
+  pub filled : c.taken ≤ c.at + 4 * (c.counters.references + c.counters.targets)
 
 -- after a step, which has read the document up to place n; nothing comes with its refusal
 abbrev pub StepHeld : ℕ → List ℕ → Step → Type 0
@@ -117,10 +117,6 @@ Roomy t w = (4096 ≤ length t) × (room ≤ length w)
 -- no place of s is marked: there is a mark for each byte, or more, and all are 0
 abbrev pub Unmarked : List ℕ → List ℕ → Type 0
 Unmarked s marks = (length s ≤ length marks) × (marks ≡ replicate (length marks) 0)
-
-abbrev pub nothing_yet : MarkupLinkCollection
-nothing_yet =
-    record { at = 0; fill = 0; links = 0; label2dest = 0; label2label = 0; counters = record { references = 0; targets = 0 } }
 
 -- one row more in a table
 abbrev pub one_link : MarkupLinkCollection → MarkupLinkCollection
@@ -169,17 +165,17 @@ with_both_rows t c x y = if_room c.links (with_name_row Destinations (put_link t
 
 -- a label or name a, for which there are a number and room
 abbrev pub Labellable : Span → ℕ × Counters → MarkupLinkCollection → List ℕ → Type 0
-Labellable a next c w = (next.0 < 1000) × ((c.fill + 4 ≤ length w) × SpanWithin c.fill a)
+Labellable a next c w = (next.0 < 1000) × ((c.taken + 4 ≤ length w) × SpanWithin c.taken a)
 
 -- A label or name a, which is the next number if it is _ ; c' is what is collected then, and w' are the work bytes.
 pub record LabelledBy (a : Span) (next : ℕ × Counters) (c : MarkupLinkCollection) (w : List ℕ) (c' : MarkupLinkCollection) (w' : List ℕ) (r : Span) : Type 0 where
   pub label : part r w' ≡ elim (is_anonymous (part a w)) [ true ↦ numbered next.0 | false ↦ part a w ]
-  pub within : SpanWithin c'.fill r
-  pub kept : take c.fill w' ≡ take c.fill w
-  pub grows : c.fill ≤ c'.fill
-  pub filled : c'.fill ≤ c.fill + elim (is_anonymous (part a w)) [ true ↦ 4 | false ↦ 0 ]
+  pub within : SpanWithin c'.taken r
+  pub kept : take c.taken w' ≡ take c.taken w
+  pub grows : c.taken ≤ c'.taken
+  pub filled : c'.taken ≤ c.taken + elim (is_anonymous (part a w)) [ true ↦ 4 | false ↦ 0 ]
   pub counters : c'.counters ≡ elim (is_anonymous (part a w)) [ true ↦ next.1 | false ↦ c.counters ]
-  pub rest : c' ≡ record c { fill = c'.fill; counters = c'.counters }
+  pub rest : c' ≡ record c { taken = c'.taken; counters = c'.counters }
 
 -- a row of a link that was found: its strings stand in the work bytes that are taken, and the document is read to its end
 pub record Addable (t w : List ℕ) (x : LinkRow) (c : MarkupLinkCollection) : Type 0 where
@@ -187,8 +183,8 @@ pub record Addable (t w : List ℕ) (x : LinkRow) (c : MarkupLinkCollection) : T
   pub held : Held 0 0 t c
   pub read : x.place + x.consumed ≤ c.at
   pub short : x.consumed ≤ 16384
-  pub text-within : SpanWithin c.fill x.text
-  pub goal-within : SpanWithin c.fill x.goal
+  pub text-within : SpanWithin c.taken x.text
+  pub goal-within : SpanWithin c.taken x.goal
 
 -- the link that such a row tells
 abbrev pub placed_of : Kind → LinkRow → List ℕ → Placed
@@ -226,20 +222,20 @@ consumed_by (Label2Label a b skipped consumed) = consumed
 pub record Fitting (x : Link) (c : MarkupLinkCollection) : Type 0 where
   pub ends : LinkEnds x
   pub at : c.at + link_end x ≤ 65536
-  pub fill : c.fill + consumed_by x ≤ 65536
+  pub taken : c.taken + consumed_by x ≤ 65536
 
 abbrev pub row_of : Link → MarkupLinkCollection → LinkRow
 row_of x c =
     record {
       place = c.at + skipped_by x;
       consumed = consumed_by x;
-      text = record { start = c.fill + (first_of x).start; len = (first_of x).len };
-      goal = record { start = c.fill + (second_of x).start; len = (second_of x).len };
+      text = record { start = c.taken + (first_of x).start; len = (first_of x).len };
+      goal = record { start = c.taken + (second_of x).start; len = (second_of x).len };
       kind = Direct;
     }
 
 abbrev pub read_to : Link → MarkupLinkCollection → MarkupLinkCollection
-read_to x c = record c { at = c.at + link_end x; fill = c.fill + consumed_by x }
+read_to x c = record c { at = c.at + link_end x; taken = c.taken + consumed_by x }
 
 -- a link that was found can be added
 pub record Scannable (t w : List ℕ) (x : Link) (c : MarkupLinkCollection) : Type 0 where
@@ -248,14 +244,13 @@ pub record Scannable (t w : List ℕ) (x : Link) (c : MarkupLinkCollection) : Ty
   pub ends : LinkEnds x
   pub inside : c.at + link_end x ≤ 16384
 
--- it is added, the document being read up to place n
-abbrev pub add_scanned : ℕ → List ℕ → ℕ → Collection → Scanned → Collected
-add_scanned render s n c (found kind x y skipped consumed) = add_of kind render s (placed n kind x y skipped consumed) c
-add_scanned render s n c nothing = collected c
-add_scanned render s n c no_room = collected c
+-- it stands behind place n, its strings in the bytes y
+abbrev pub placed_behind : ℕ → Link → List ℕ → Placed
+placed_behind n x y = placed n (kind_of x) (part (first_of x) y) (part (second_of x) y) (skipped_by x) (consumed_by x)
 
+-- a step that adds it
 pub record AddsScanned (render : ℕ) (c : MarkupLinkCollection) (x : Link) (t w t' w' : List ℕ) (r : Step) : Type 0 where
-  pub step : (s : List ℕ) → step_of s t' w' r ≡ add_scanned render s c.at (collection_of s t w c) (link_of x (drop c.fill w))
+  pub step : (s : List ℕ) → step_of s t' w' r ≡ add render s (placed_behind c.at x (drop c.taken w)) (collection_of s t w c)
   pub held : StepHeld (c.at + link_end x) t' r
 
 -- a step that adds all links of document s
@@ -273,19 +268,10 @@ found_of None w = none
 abbrev pub NamesHeld : ℕ → List ℕ → List ℕ → Type 0
 NamesHeld n t w = record { roomy : Roomy t w; few : n ≤ 256; within : PairsWithin room (pair_rows n destinations_at t) }
 
--- and a name can be looked up there; the first m of them are others
-abbrev pub Lookable : List ℕ → ℕ → ℕ → List ℕ → List ℕ → Type 0
-Lookable name m n t w =
-    record { held : NamesHeld n t w; before : m ≤ n; others : lookup name (pairs_of m destinations_at t w) ≡ none }
-
 -- row i can be put into the index
 abbrev pub Indexable : ℕ → List ℕ → List ℕ → Type 0
 Indexable i t w =
     record { roomy : Roomy t w; few : i < 256; within : SpanWithin room (pair_at t (destinations_at + 4 * i)).name }
-
--- the n names are in the index
-abbrev pub InIndex : ℕ → List ℕ → List ℕ → Type 0
-InIndex n t w = record { held : NamesHeld n t w; indexed : Indexed n t w }
 
 -- The walk through the aliases
 
@@ -365,10 +351,6 @@ AliasesResolved r t t' =
 
 -- The links as they are written
 
--- a row whose goal is a destination can be written: its strings stand in the document and in the work bytes
-abbrev pub Writable : List ℕ → List ℕ → LinkRow → Type 0
-Writable s w x = record { short : length s ≤ 16384; roomy : room ≤ length w; within : LinkWithin (length s) room x }
-
 -- how many bytes the records of links take
 unfoldable pub size_of : List Hyperlink → ℕ
 size_of [] = 0
@@ -380,9 +362,9 @@ InOrder n [] = Unit {0}
 InOrder n (x ∷ rest) = (n ≤ x.place) × InOrder (x.place + x.consumed) rest
 
 -- a link can be put behind those that are resolved
-abbrev pub Keeping : LinkRow → Resolved → List ℕ → List ℕ → List ℕ → Type 0
-Keeping x r s t w =
-    record { roomy : Roomy t w; writable : Writable s w x; few : r.links < 256; size : r.size ≤ 32776 * r.links }
+abbrev pub Keeping : LinkRow → Resolved → List ℕ → List ℕ → Type 0
+Keeping x r s t =
+    record { long : 4096 ≤ length t; within : LinkWithin (length s) room x; few : r.links < 256; size : r.size ≤ 32776 * r.links }
 
 abbrev pub kept : LinkRow → Resolved → List ℕ → List ℕ → Resolved
 kept x r s w =
@@ -399,7 +381,6 @@ goal_of stored w x =
 
 -- n links are to be resolved
 pub record ReferencesHeld (n destinations : ℕ) (s t w : List ℕ) : Type 0 where
-  pub short : length s ≤ 16384
   pub few : n ≤ 256
   pub links-within : LinksWithin (length s) room (link_rows n 0 t)
   pub names : NamesHeld destinations t w
@@ -416,8 +397,7 @@ ReferencesResolved s t w r =
 abbrev pub Writing : ℕ → List ℕ → List ℕ → List ℕ → List ℕ → Type 0
 Writing n s t w o =
     record {
-      short : length s ≤ 16384;
-      roomy : Roomy t w;
+      long : 4096 ≤ length t;
       few : n ≤ 256;
       within : LinksWithin (length s) room (link_rows n 0 t);
       order : InOrder 0 (hyperlinks_in n s t w);

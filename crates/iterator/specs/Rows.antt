@@ -1,11 +1,14 @@
 -- How what is collected stands in the work areas: rows in the work numbers, strings in the work bytes. The contracts of private functions
 -- speak of it; the promises of the document call do not.
 -- Assumes nothing.
-use Rattle.std.specs.Prelude.{ℕ, zero, suc, ◌+◌, ◌≤◌, List, [], ◌∷◌, map, true, false, eqb, get_or, set}
+use Rattle.std.specs.Prelude.{ℕ, zero, suc, ◌+◌, ◌*◌, ◌≤◌, List, [], ◌∷◌, map, true, false, eqb, get_or, set}
+use denote.Struct.Props.{props}
 use Rattle.restructured_text.specs.declared.Span.{Span}
 use Rattle.restructured_text.specs.Strings.{part}
 use Rattle.iterator.specs.declared.rows.PairRow.{PairRow}
 use Rattle.iterator.specs.declared.rows.LinkRow.{LinkRow}
+use Rattle.iterator.specs.declared.rows.Table.{Table}
+use Rattle.iterator.specs.declared.rows.Table.TheVariants.{Destinations, Aliases}
 use Rattle.iterator.specs.declared.rows.LinkKind.{LinkKind}
 use Rattle.iterator.specs.declared.rows.LinkKind.TheVariants.{Direct, Reference, Rendered}
 use Rattle.iterator.specs.Collect.{Pair, pair, Item, destination, label}
@@ -97,6 +100,11 @@ destinations_at = 1792
 abbrev pub aliases_at : ℕ
 aliases_at = 2816
 
+-- where row i of a table stands
+abbrev pub place_of : Table → ℕ → ℕ
+place_of Destinations i = destinations_at + 4 * i
+place_of Aliases i = aliases_at + 4 * i
+
 abbrev pub pairs_of : ℕ → ℕ → List ℕ → List ℕ → List Pair
 pairs_of n a t w = map (pair_of w) (pair_rows n a t)
 
@@ -128,6 +136,12 @@ LinkWithin m n x = (x.place + x.consumed ≤ m) × (TextWithin m n x × SpanWith
 unfoldable pub PairsWithin : ℕ → List PairRow → Type 0
 PairsWithin n [] = Unit {0}
 PairsWithin n (x ∷ rest) = PairWithin n x × PairsWithin n rest
+
+-- a proposition, so that a ghost field may say it
+pub pairs-within-prop : (n : ℕ) (rows : List PairRow) → IsProp (PairsWithin n rows)
+unfolding PairsWithin
+pairs-within-prop n [] = hlevel props
+pairs-within-prop n (x ∷ rows) = hlevel (props, pairs-within-prop n rows)
 
 unfoldable pub LinksWithin : ℕ → ℕ → List LinkRow → Type 0
 LinksWithin m n [] = Unit {0}

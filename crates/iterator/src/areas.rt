@@ -1,25 +1,12 @@
-// Work areas, zeroed. By loops of their own: the library's `fill` stores the last place apart from the others, and a place beyond what is lent would be
-// written without a word of the sanitizers that the archive's tests use.
+// Work areas, zeroed. By a loop of its own: the library's `fill` stores the last place apart from the others, and a place beyond what is lent
+// would be written without a word of the sanitizers that the archive's tests use.
 ghost use Rattle.std.specs.Prelude.{◌≡◌, length, replicate};
 
-// Zero in each number.
-pub fn clear_numbers(numbers: &mut [u32])
-    ensures { numbers.new ≡ replicate (length numbers.old) 0 }
+// Zero in each place.
+pub fn clear<T: Copy>(area: &mut [T], zero: T)
+    ensures { area.new ≡ replicate (length area.old) zero }
 {
-    let mut i = 0;
-    while i < numbers.len() {
-        numbers[i] = 0;
-        i += 1;
-    }
-}
-
-// Zero in each byte.
-pub fn clear_bytes(bytes: &mut [u8])
-    ensures { bytes.new ≡ replicate (length bytes.old) 0 }
-{
-    let mut i = 0;
-    while i < bytes.len() {
-        bytes[i] = 0;
-        i += 1;
+    for i in 0..area.len() {
+        area[i] = zero;
     }
 }

@@ -30,27 +30,18 @@ ghost use Rattle.iterator.specs.Inner.{
 use crate::counters::Counters;
 use crate::names::{is_anonymous, write_numbered};
 use crate::render::Render;
-use crate::rows::{
-    ALIASES, DESTINATIONS, LinkKind, LinkRow, PairRow, ROWS_MAX, put_link, put_pair,
-};
+use crate::rows::{LinkKind, LinkRow, PairRow, ROWS_MAX, Table, put_link};
 use parse::{DOCUMENT_LEN_MAX, Known, Link, Refusal, next_link};
 use restructured_text::Span;
 
 // The longest document that few marks are enough for.
 const SHORT_LEN_MAX: usize = 1024;
 
-// The two tables of names: with a destination, and aliases.
-#[derive(Clone, Copy)]
-pub enum Table {
-    Destinations,
-    Aliases,
-}
-
 // What is collected so far: how far the document is read, how many work bytes are taken, how many rows each table has, and the counters.
-#[derive(Clone, Copy, Default)]
+#[derive(Clone, Copy, Debug, Default, PartialEq, Eq)]
 pub struct MarkupLinkCollection {
     pub at: usize,
-    pub fill: usize,
+    pub taken: usize,
     pub links: usize,
     pub label2dest: usize,
     pub label2label: usize,
@@ -67,7 +58,7 @@ impl MarkupLinkCollection {
         if ROWS_MAX <= self.links {
             return Err(Refusal::Links);
         }
-        put_link(numbers, 7 * self.links, x);
+        put_link(self.links, x, numbers);
         self.links += 1;
         Ok(())
     }
@@ -83,11 +74,11 @@ impl MarkupLinkCollection {
         }
         match table {
             Table::Destinations => {
-                put_pair(numbers, DESTINATIONS + 4 * self.label2dest, x);
+                table.put(self.label2dest, x, numbers);
                 self.label2dest += 1;
             }
             Table::Aliases => {
-                put_pair(numbers, ALIASES + 4 * self.label2label, x);
+                table.put(self.label2label, x, numbers);
                 self.label2label += 1;
             }
         }
@@ -113,9 +104,9 @@ impl MarkupLinkCollection {
             return a;
         }
         let (number, counters) = next;
-        let start = self.fill;
+        let start = self.taken;
         let len = write_numbered(number, &mut bytes[start..]);
-        self.fill += len;
+        self.taken += len;
         self.counters = counters;
         Span { start, len }
     }
@@ -188,9 +179,9 @@ impl MarkupLinkCollection {
         self.add_name(Table::Aliases, PairRow { name, to: x.goal }, numbers)
     }
 
-    // The row of a link that was found, whose strings stand in the work bytes behind those that are taken. The document is read to its end
-    // then, and its strings are taken.
-    fn take(&mut self, x: Link) -> LinkRow
+    // The row of a link that was found, whose strings stand in the work bytes behind those that are taken. Then the document is read to
+    // the link's end, and the link's strings are taken. The pattern is that of `parts` of `parse`, which is private to it.
+    fn take_row(&mut self, x: Link) -> LinkRow
         requires { Fitting x self.old }
         ensures row { result ≡ row_of x self.old }
         ensures read { self.new ≡ read_to x self.old }
@@ -204,17 +195,17 @@ impl MarkupLinkCollection {
             place: self.at + skipped,
             consumed,
             text: Span {
-                start: self.fill + a.start,
+                start: self.taken + a.start,
                 len: a.len,
             },
             goal: Span {
-                start: self.fill + b.start,
+                start: self.taken + b.start,
                 len: b.len,
             },
             kind: LinkKind::Direct,
         };
         self.at += skipped + consumed;
-        self.fill += consumed;
+        self.taken += consumed;
         row
     }
 
@@ -229,7 +220,7 @@ impl MarkupLinkCollection {
         requires { Scannable numbers.old bytes.old x self.old }
         ensures { AddsScanned (render_number render) self.old x numbers.old bytes.old numbers.new bytes.new (after result self.new) }
     {
-        let row = self.take(x);
+        let row = self.take_row(x);
         match x {
             Link::Text2Dest(..) => self.add_link(row, numbers),
             Link::TextLabel2Dest(..) => {
@@ -262,22 +253,21 @@ fn gather(
     let mut known = Known::default();
     // No `for`: each link says where the next scan begins.
     while c.at < document.len() {
-        let scanned = next_link(
+        let Ok(x) = next_link(
             &document[c.at..],
-            &mut bytes[c.fill..],
+            &mut bytes[c.taken..],
             &mut marks[c.at..],
-            known,
-        );
-        let Ok(x) = scanned.scan else {
+            &mut known,
+        ) else {
+            // No link is left. It is never for want of room: more bytes are free than the document has.
             return Ok(c);
         };
         c.add(render, x, numbers, bytes)?;
-        known = scanned.known;
     }
     Ok(c)
 }
 
-// The same with N marks, each of which is zeroed before it is read.
+// The same with N marks, all zero.
 fn gather_with<const N: usize>(
     document: &[u8],
     render: Render,

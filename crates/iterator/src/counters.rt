@@ -3,7 +3,7 @@ ghost use Rattle.std.specs.Prelude.{◌≡◌, ◌≤◌};
 ghost use Rattle.iterator.specs.Inner.{reference_numbered, target_numbered};
 
 // How many references, and how many blocks, were numbered.
-#[derive(Clone, Copy, Default)]
+#[derive(Clone, Copy, Debug, Default, PartialEq, Eq)]
 pub struct Counters {
     pub references: u32,
     pub targets: u32,

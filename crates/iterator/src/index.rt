@@ -1,17 +1,17 @@
 // The index of the names with a destination. Each name belongs to one of 256 buckets. Of each bucket the index has the last row, and of each
 // row the one before it in its bucket: counted from 1, and 0 where there is none.
-// No map: the memory is the caller's, and there is no heap.
-ghost use Rattle.std.specs.Prelude.{◌≡◌, length};
+// No map, and no Option of a row: there is no heap, and what the caller lends are numbers of 32 bits.
+ghost use Rattle.std.specs.Prelude.{◌≡◌};
 ghost use Rattle.iterator.specs.Index.{row_bucket, with_row, TablesKept, Indexed};
 ghost use Rattle.iterator.specs.Inner.{NamesHeld, Indexable};
 
 use crate::names::bucket;
-use crate::rows::{ALIASES, DESTINATIONS, pair_at};
+use crate::rows::{ALIASES, ROWS_MAX, Table};
 
 // How many buckets there are.
 const BUCKETS: usize = 256;
 // Where the last row of each bucket stands.
-pub const LASTS: usize = 3840;
+pub const LASTS: usize = ALIASES + 4 * ROWS_MAX;
 // Where, of each row, the one before it in its bucket stands: in the table of the aliases, which are resolved before the index is made.
 pub const EARLIER: usize = ALIASES;
 
@@ -20,8 +20,8 @@ fn index_row(i: usize, numbers: &mut [u32], bytes: &[u8])
     requires { Indexable i numbers.old bytes.now }
     ensures { numbers.new ≡ with_row i (row_bucket numbers.old bytes.now i) numbers.old }
 {
-    let row = pair_at(numbers, DESTINATIONS + 4 * i);
-    let b = bucket(row.name.of(bytes));
+    let row = Table::Destinations.row(i, numbers);
+    let b = bucket(row.name.of(bytes)) as usize;
     numbers[EARLIER + i] = numbers[LASTS + b];
     numbers[LASTS + b] = (i + 1) as u32;
 }

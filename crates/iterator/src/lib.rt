@@ -21,9 +21,9 @@ ghost use Rattle.iterator.specs.Document.{answer_of, document_of, verdict, verdi
 ghost use Rattle.iterator.specs.Render.{render_number};
 ghost use Rattle.iterator.specs.Inner.{Roomy, outcome_of, Told};
 
-use crate::areas::{clear_bytes, clear_numbers};
+use crate::areas::clear;
 use crate::collect::collect;
-use crate::records::write_records;
+use crate::records::Strings;
 use crate::render::Render;
 use crate::resolve::{Resolved, resolve_label2label_references, resolve_text2label_references};
 use parse::{DOCUMENT_LEN_MAX, Refusal};
@@ -46,7 +46,7 @@ pub const NUMBERS_MIN: usize = 4096;
 pub const BYTES_MIN: usize = 49152;
 
 impl Outcome {
-    // What a call returns of the links that it wrote, or of a refusal.
+    // What a call returns of the links that it wrote, or of a refusal. No `From`: it asks that 32 bits hold them.
     fn new(answer: Result<Resolved, Refusal>) -> Self
         requires links { (outcome_of answer).links < 4294967296 }
         requires bytes { (outcome_of answer).bytes < 4294967296 }
@@ -80,11 +80,12 @@ fn read(
 {
     let c = collect(document, render, numbers, bytes)?;
     let names = resolve_label2label_references(c.label2label, c.label2dest, numbers, bytes);
-    let r = resolve_text2label_references(c.links, names, document, numbers, bytes);
+    let strings = Strings { document, bytes };
+    let r = resolve_text2label_references(c.links, names, strings, numbers);
     if output.len() < r.size {
         return Err(Refusal::OutputLen(r.size));
     }
-    write_records(r.links, document, numbers, bytes, output);
+    strings.write_records(r.links, numbers, output);
     Ok(r)
 }
 
@@ -123,7 +124,7 @@ pub fn document(
     ensures { answer_of (verdict result output.new) numbers.new bytes.new ≡ document_of document.now render numbers.old bytes.old output.old }
 {
     let answer = work(document, render, numbers, bytes, output);
-    clear_numbers(numbers);
-    clear_bytes(bytes);
+    clear(numbers, 0);
+    clear(bytes, 0);
     Outcome::new(answer)
 }

@@ -7,7 +7,7 @@ ghost use Rattle.iterator.specs.Index.{bucket_of};
 pub fn is_anonymous(name: &[u8]) -> bool
     ensures { result ≡ is_anonymous name.now }
 {
-    name.len() == 1 && name[0] == b'_'
+    matches!(name, [b'_'])
 }
 
 // The last decimal digit of a number.
@@ -18,7 +18,7 @@ fn digit(n: u32) -> u8
 }
 
 // `_` and a number, written to the front of the bytes; how many they are.
-// No `write!`: its contract does not say which bytes it writes.
+// No `write!`: its contract does not say which bytes it writes. No `InlineText`: its contract lets a number that fits be cut.
 pub fn write_numbered(number: u32, bytes: &mut [u8]) -> usize
     requires few { number < 1000 }
     requires room { 4 ≤ length bytes.old }
@@ -45,21 +45,17 @@ pub fn write_numbered(number: u32, bytes: &mut [u8]) -> usize
     }
 }
 
-// Whether two names are the same. They are compared from the end, since names that are alike often differ in a number there.
+// Whether two names are the same.
 pub fn same_name(a: &[u8], b: &[u8]) -> bool
     ensures { IsTrue result ↔ (a.now ≡ b.now) }
 {
-    a.len() == b.len() && a.iter().rev().zip(b.iter().rev()).all(|(x, y)| x == y)
+    a == b
 }
 
 // The bucket that a name belongs to, by all of its bytes: names that are the same belong to the same.
-pub fn bucket(name: &[u8]) -> usize
-    ensures bucket { result ≡ bucket_of name.now }
-    ensures small { result < 256 }
+pub fn bucket(name: &[u8]) -> u8
+    ensures { result ≡ bucket_of name.now }
 {
-    let mut h = 0;
-    for b in name {
-        h = (h * 9 + *b as usize) % 256;
-    }
-    h
+    name.iter()
+        .fold(0, |h: u8, &b| h.wrapping_mul(9).wrapping_add(b))
 }

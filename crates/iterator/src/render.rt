@@ -4,7 +4,7 @@ ghost use Rattle.iterator.specs.Render.{Decodes};
 use parse::Refusal;
 
 // Whether a destination block is also a link.
-#[derive(Clone, Copy)]
+#[derive(Clone, Copy, Debug, PartialEq, Eq)]
 pub enum Render {
     Off,
     On,

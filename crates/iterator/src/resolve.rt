@@ -1,10 +1,11 @@
 // Resolving: the destination of a name, of each alias, and of each reference.
-ghost use Rattle.std.specs.Prelude.{◌≡◌, ◌+◌, ◌*◌, ◌<◌, IfSome};
-ghost use Rattle.iterator.specs.Resolve.{lookup, resolve_aliases, resolve_references};
-ghost use Rattle.iterator.specs.Rows.{pairs_of, items_of, hyperlinks_in, destinations_at, aliases_at, put_link, room, SpanWithin};
+ghost use Rattle.std.specs.Prelude.{◌≡◌, ◌*◌, ◌≤◌, ◌<◌, IfSome};
+ghost use Rattle.std.proofs.Props.{props};
+ghost use Rattle.iterator.specs.Index.{Indexed};
+ghost use Rattle.iterator.specs.Resolve.{none, lookup, resolve_aliases, resolve_references};
+ghost use Rattle.iterator.specs.Rows.{pairs_of, items_of, hyperlinks_in, destinations_at, aliases_at, put_link, room, SpanWithin, pairs-within-prop};
 ghost use Rattle.iterator.specs.Inner.{
-  Lookable,
-  InIndex,
+  NamesHeld,
   found_of,
   wrap,
   Walking,
@@ -23,57 +24,74 @@ ghost use Rattle.iterator.specs.Inner.{
 
 use crate::index::{EARLIER, LASTS, index_names};
 use crate::names::{bucket, same_name};
-use crate::records::record_len;
-use crate::rows::{
-    ALIASES, DESTINATIONS, LinkKind, LinkRow, PairRow, link_at, pair_at, put_link, put_pair,
-};
+use crate::records::Strings;
+use crate::rows::{LinkKind, LinkRow, PairRow, Table, link_at, put_link};
 use restructured_text::Span;
 
-// The destination of a name, the last that was stored under it. The names with their destinations are the first n rows of their table;
-// those before row `from` are known to be others, and are not looked at.
-pub fn destination_of(
-    name: &[u8],
-    from: usize,
+// The names with a destination: the first n rows of their table, with their strings in the work bytes.
+#[derive(Clone, Copy)]
+struct Names<'a> {
     n: usize,
-    numbers: &[u32],
-    bytes: &[u8],
-) -> Option<Span>
-    requires { Lookable name.now from n numbers.now bytes.now }
-    ensures found { found_of result bytes.now ≡ lookup name.now (pairs_of n destinations_at numbers.now bytes.now) }
-    ensures within { IfSome result (SpanWithin room) }
-{
-    for i in (from..n).rev() {
-        let row = pair_at(numbers, DESTINATIONS + 4 * i);
-        if same_name(row.name.of(bytes), name) {
-            return Some(row.to);
-        }
-    }
-    None
+    numbers: &'a [u32],
+    bytes: &'a [u8],
+    ghost held: { NamesHeld n numbers.now bytes.now } by { Prim.hlevel (props, pairs-within-prop) },
 }
 
-// The destination of a name, found through the index of the n names: only rows of its bucket are looked at, the last of them first.
-fn destination_by_index(name: &[u8], n: usize, numbers: &[u32], bytes: &[u8]) -> Option<Span>
-    requires { InIndex n numbers.now bytes.now }
-    ensures found { found_of result bytes.now ≡ lookup name.now (pairs_of n destinations_at numbers.now bytes.now) }
-    ensures within { IfSome result (SpanWithin room) }
-{
-    let mut next = (numbers[LASTS + bucket(name)] as usize).checked_sub(1);
-    // No `for`: each row tells the one before it in its bucket.
-    // No `for`: each row names the one before it in its bucket.
-    while let Some(i) = next {
-        let row = pair_at(numbers, DESTINATIONS + 4 * i);
-        if same_name(row.name.of(bytes), name) {
-            return Some(row.to);
+impl<'a> Names<'a> {
+    // The destination of a name, the last that was stored under it. The names before row `from` are known to be others, and are not
+    // looked at.
+    fn destination_of(self, name: &[u8], from: usize) -> Option<Span>
+        requires before { from ≤ self.n }
+        requires others { lookup name.now (pairs_of from destinations_at self.numbers.now self.bytes.now) ≡ none }
+        ensures found { found_of result self.entry.bytes.now ≡ lookup name.now (pairs_of self.entry.n destinations_at self.entry.numbers.now self.entry.bytes.now) }
+        ensures within { IfSome result (SpanWithin room) }
+    {
+        // No `find`: what its closures ask at each turn, that the row stands in the table, did not close over a range in reverse.
+        for i in (from..self.n).rev() {
+            let row = Table::Destinations.row(i, self.numbers);
+            if same_name(row.name.of(self.bytes), name) {
+                return Some(row.to);
+            }
         }
-        next = (numbers[EARLIER + i] as usize).checked_sub(1);
+        None
     }
-    None
+
+    // The same, found through the index of the names: only rows of its bucket are looked at, the last of them first.
+    fn destination_by_index(self, name: &[u8]) -> Option<Span>
+        requires { Indexed self.n self.numbers.now self.bytes.now }
+        ensures found { found_of result self.entry.bytes.now ≡ lookup name.now (pairs_of self.entry.n destinations_at self.entry.numbers.now self.entry.bytes.now) }
+        ensures within { IfSome result (SpanWithin room) }
+    {
+        let mut next = (self.numbers[LASTS + bucket(name) as usize] as usize).checked_sub(1);
+        // No `for`: each row names the one before it in its bucket.
+        while let Some(i) = next {
+            let row = Table::Destinations.row(i, self.numbers);
+            if same_name(row.name.of(self.bytes), name) {
+                return Some(row.to);
+            }
+            next = (self.numbers[EARLIER + i] as usize).checked_sub(1);
+        }
+        None
+    }
+
+    // The destination of a link: its goal, or, of a reference, what its label has.
+    fn goal_of(self, x: LinkRow) -> Option<Span>
+        requires indexed { Indexed self.n self.numbers.now self.bytes.now }
+        requires within { SpanWithin room x.goal }
+        ensures found { found_of result self.entry.bytes.now ≡ goal_of (pairs_of self.entry.n destinations_at self.entry.numbers.now self.entry.bytes.now) self.entry.bytes.now x }
+        ensures within { IfSome result (SpanWithin room) }
+    {
+        match x.kind {
+            LinkKind::Reference => self.destination_by_index(x.goal.of(self.bytes)),
+            LinkKind::Direct | LinkKind::Rendered => Some(x.goal),
+        }
+    }
 }
 
 // Where the walk through the aliases is: of their table the rows before `passed` and those from `next` to `end` are left; so many were
 // missed in a row; so many names have a destination. Of these names the first `known` are no target of an alias from `next` to `end`, and
 // the first `fresh` none of an alias before `passed`: their rows need not be looked at again.
-#[derive(Clone, Copy)]
+#[derive(Clone, Copy, Debug, PartialEq, Eq)]
 pub struct Walk {
     pub passed: usize,
     pub next: usize,
@@ -86,60 +104,44 @@ pub struct Walk {
 
 impl Walk {
     // At the end, the first again: those that were passed are ahead now, and none is passed.
-    fn wrapped(self) -> Self
-        ensures { result ≡ wrap self }
+    fn wrap(&mut self)
+        ensures { self.new ≡ wrap self.old }
     {
         if self.next == self.end {
-            return Walk {
-                passed: 0,
-                next: 0,
-                end: self.passed,
-                known: self.fresh,
-                fresh: self.destinations,
-                ..self
-            };
+            self.next = 0;
+            self.end = self.passed;
+            self.passed = 0;
+            self.known = self.fresh;
+            self.fresh = self.destinations;
         }
-        self
     }
 
     // Tries the next alias: if its target has a destination, that is stored under the alias's name and the alias is left out; else the
     // alias is passed.
-    fn try_alias(self, numbers: &mut [u32], bytes: &[u8]) -> Self
-        requires { Tryable numbers.old bytes.now self }
-        ensures walk { walk_of numbers.new bytes.now result ≡ walk_of numbers.old bytes.now self }
-        ensures walking { Walking numbers.new bytes.now result }
-        ensures fewer { steps_left result < steps_left self }
+    fn try_alias(&mut self, numbers: &mut [u32], bytes: &[u8])
+        requires { Tryable numbers.old bytes.now self.old }
+        ensures walk { walk_of numbers.new bytes.now self.new ≡ walk_of numbers.old bytes.now self.old }
+        ensures walking { Walking numbers.new bytes.now self.new }
+        ensures fewer { steps_left self.new < steps_left self.old }
         ensures links { LinksKept numbers.old numbers.new }
     {
-        let x = pair_at(numbers, ALIASES + 4 * self.next);
-        match destination_of(
-            x.to.of(bytes),
-            self.known,
-            self.destinations,
+        let x = Table::Aliases.row(self.next, numbers);
+        self.next += 1;
+        let names = Names {
+            n: self.destinations,
             numbers,
             bytes,
-        ) {
+        };
+        match names.destination_of(x.to.of(bytes), self.known) {
             Some(to) => {
-                put_pair(
-                    numbers,
-                    DESTINATIONS + 4 * self.destinations,
-                    PairRow { to, ..x },
-                );
-                Walk {
-                    next: self.next + 1,
-                    misses: 0,
-                    destinations: self.destinations + 1,
-                    ..self
-                }
+                Table::Destinations.put(self.destinations, PairRow { to, ..x }, numbers);
+                self.destinations += 1;
+                self.misses = 0;
             }
             None => {
-                put_pair(numbers, ALIASES + 4 * self.passed, x);
-                Walk {
-                    passed: self.passed + 1,
-                    next: self.next + 1,
-                    misses: self.misses + 1,
-                    ..self
-                }
+                Table::Aliases.put(self.passed, x, numbers);
+                self.passed += 1;
+                self.misses += 1;
             }
         }
     }
@@ -156,7 +158,7 @@ pub fn resolve_label2label_references(
     ensures resolved { pairs_of result destinations_at numbers.new bytes.now ≡ resolve_aliases (pairs_of aliases aliases_at numbers.old bytes.now) (pairs_of destinations destinations_at numbers.old bytes.now) }
     ensures held { AliasesResolved result numbers.old numbers.new }
 {
-    let mut v = Walk {
+    let mut walk = Walk {
         passed: 0,
         next: 0,
         end: aliases,
@@ -165,16 +167,16 @@ pub fn resolve_label2label_references(
         known: 0,
         fresh: destinations,
     };
-    // No `for`: a hit changes how many tries are left.
     // No `for`: it goes round until as many aliases were missed in a row as are left.
-    while v.misses < v.passed + (v.end - v.next) {
-        v = v.wrapped().try_alias(numbers, bytes);
+    while walk.misses < walk.passed + (walk.end - walk.next) {
+        walk.wrap();
+        walk.try_alias(numbers, bytes);
     }
-    v.destinations
+    walk.destinations
 }
 
 // How many links have a destination, and how many bytes their records take.
-#[derive(Clone, Copy, Default)]
+#[derive(Clone, Copy, Debug, Default, PartialEq, Eq)]
 pub struct Resolved {
     pub links: usize,
     pub size: usize,
@@ -182,31 +184,14 @@ pub struct Resolved {
 
 impl Resolved {
     // Puts a link behind those that have a destination.
-    fn keep(self, x: LinkRow, document: &[u8], numbers: &mut [u32], bytes: &[u8]) -> Self
-        requires { Keeping x self document.now numbers.old bytes.now }
-        ensures links { result ≡ kept x self document.now bytes.now }
-        ensures row { numbers.new ≡ put_link numbers.old (7 * self.links) x }
+    fn keep(&mut self, x: LinkRow, strings: Strings, numbers: &mut [u32])
+        requires { Keeping x self.old strings.document.now numbers.old }
+        ensures links { self.new ≡ kept x self.old strings.entry.document.now strings.entry.bytes.now }
+        ensures row { numbers.new ≡ put_link numbers.old (7 * self.old.links) x }
     {
-        put_link(numbers, 7 * self.links, x);
-        Resolved {
-            links: self.links + 1,
-            size: self.size + record_len(x, document, bytes),
-        }
-    }
-}
-
-// The destination of a link: its goal, or, of a reference, what its label has.
-fn goal_of(x: LinkRow, destinations: usize, numbers: &[u32], bytes: &[u8]) -> Option<Span>
-    requires index { InIndex destinations numbers.now bytes.now }
-    requires within { SpanWithin room x.goal }
-    ensures found { found_of result bytes.now ≡ goal_of (pairs_of destinations destinations_at numbers.now bytes.now) bytes.now x }
-    ensures within { IfSome result (SpanWithin room) }
-{
-    match x.kind {
-        LinkKind::Reference => {
-            destination_by_index(x.goal.of(bytes), destinations, numbers, bytes)
-        }
-        LinkKind::Direct | LinkKind::Rendered => Some(x.goal),
+        put_link(self.links, x, numbers);
+        self.links += 1;
+        self.size += strings.record_len(x);
     }
 }
 
@@ -214,20 +199,24 @@ fn goal_of(x: LinkRow, destinations: usize, numbers: &[u32], bytes: &[u8]) -> Op
 pub fn resolve_text2label_references(
     n: usize,
     destinations: usize,
-    document: &[u8],
+    strings: Strings,
     numbers: &mut [u32],
-    bytes: &[u8],
 ) -> Resolved
-    requires { ReferencesHeld n destinations document.now numbers.old bytes.now }
-    ensures links { hyperlinks_in result.links document.now numbers.new bytes.now ≡ resolve_references (pairs_of destinations destinations_at numbers.old bytes.now) (items_of n 0 document.now numbers.old bytes.now) }
-    ensures held { ReferencesResolved document.now numbers.new bytes.now result }
+    requires { ReferencesHeld n destinations strings.document.now numbers.old strings.bytes.now }
+    ensures links { hyperlinks_in result.links strings.entry.document.now numbers.new strings.entry.bytes.now ≡ resolve_references (pairs_of destinations destinations_at numbers.old strings.entry.bytes.now) (items_of n 0 strings.entry.document.now numbers.old strings.entry.bytes.now) }
+    ensures held { ReferencesResolved strings.entry.document.now numbers.new strings.entry.bytes.now result }
 {
-    index_names(destinations, numbers, bytes);
+    index_names(destinations, numbers, strings.bytes);
     let mut r = Resolved::default();
     for i in 0..n {
-        let x = link_at(numbers, 7 * i);
-        if let Some(goal) = goal_of(x, destinations, numbers, bytes) {
-            r = r.keep(LinkRow { goal, ..x }, document, numbers, bytes);
+        let x = link_at(i, numbers);
+        let names = Names {
+            n: destinations,
+            numbers,
+            bytes: strings.bytes,
+        };
+        if let Some(goal) = names.goal_of(x) {
+            r.keep(LinkRow { goal, ..x }, strings, numbers);
         }
     }
     r

@@ -1,8 +1,9 @@
 // Rows in the work numbers: a link takes seven of them, a name with its destination or its target four. The strings that they name
 // stand in the work bytes; the text of a rendered block stands in the document.
-// No `Vec` of rows: the memory is the caller's, and there is no heap.
-ghost use Rattle.std.specs.Prelude.{◌≡◌, ◌+◌, ◌≤◌, length};
-ghost use Rattle.iterator.specs.Rows.{kind_at, span_at, pair_at, link_at, put_span, put_pair, put_link};
+// No `Vec` of rows: there is no heap. No `as_chunks_mut`: its contract says nothing of what the numbers end as.
+// No ghost field says that a row's numbers are below 2^32: specs/Rows reads rows from any numbers, and each would need a proof of that.
+ghost use Rattle.std.specs.Prelude.{◌≡◌, ◌+◌, ◌*◌, ◌^◌, ◌≤◌, ◌<◌, length};
+ghost use Rattle.iterator.specs.Rows.{kind_at, span_at, pair_at, link_at, put_span, put_pair, put_link, place_of};
 ghost use Rattle.iterator.specs.Inner.{SpanSmall, PairSmall, LinkSmall};
 
 use restructured_text::Span;
@@ -24,17 +25,18 @@ pub struct LinkRow {
     pub kind: LinkKind,
 }
 
-#[derive(Clone, Copy)]
+// What a link's goal and text are.
+#[derive(Clone, Copy, Debug, PartialEq, Eq)]
 pub enum LinkKind {
     // A link whose goal is a destination.
-    Direct,
+    Direct = 0,
     // A reference, whose goal is a label until it is resolved.
-    Reference,
+    Reference = 1,
     // A destination block that is a link too, whose text is a part of the document.
-    Rendered,
+    Rendered = 2,
 }
 
-// The kind that stands in a row as a number.
+// The kind that stands in a row as a number; rows hold no other numbers than those of the three.
 impl From<u32> for LinkKind {
     ghost from_gives = { λ n kind. kind ≡ kind_at n };
 
@@ -50,12 +52,12 @@ impl From<u32> for LinkKind {
 // How many links, and how many names, are collected at the most.
 pub const ROWS_MAX: usize = 256;
 // Where the table of the names with a destination starts; the links stand before it.
-pub const DESTINATIONS: usize = 1792;
+const DESTINATIONS: usize = 7 * ROWS_MAX;
 // Where the table of the aliases starts.
-pub const ALIASES: usize = 2816;
+pub const ALIASES: usize = DESTINATIONS + 4 * ROWS_MAX;
 
 // The two numbers at a place.
-fn span_at(numbers: &[u32], n: usize) -> Span
+fn span_at(n: usize, numbers: &[u32]) -> Span
     requires { n + 2 ≤ length numbers.now }
     ensures { result ≡ span_at numbers.now n }
 {
@@ -66,7 +68,7 @@ fn span_at(numbers: &[u32], n: usize) -> Span
 }
 
 // Two numbers put at a place.
-fn put_span(numbers: &mut [u32], n: usize, x: Span)
+fn put_span(n: usize, x: Span, numbers: &mut [u32])
     requires room { n + 2 ≤ length numbers.old }
     requires small { SpanSmall x }
     ensures { numbers.new ≡ put_span numbers.old n x }
@@ -75,50 +77,75 @@ fn put_span(numbers: &mut [u32], n: usize, x: Span)
     numbers[n + 1] = x.len as u32;
 }
 
-// The four numbers at a place.
-pub fn pair_at(numbers: &[u32], n: usize) -> PairRow
-    requires { n + 4 ≤ length numbers.now }
-    ensures { result ≡ pair_at numbers.now n }
-{
-    PairRow {
-        name: span_at(numbers, n),
-        to: span_at(numbers, n + 2),
+// The two tables of names: with a destination, and aliases. Their rows and those of links are read and put by functions of their own, not by
+// generic ones over N numbers: each field has a type and a place of its own.
+#[derive(Clone, Copy, Debug, PartialEq, Eq)]
+pub enum Table {
+    Destinations,
+    Aliases,
+}
+
+impl Table {
+    // Where its row i stands.
+    fn place(self, i: usize) -> usize
+        requires { place_of self i < 2 ^ 64 }
+        ensures { result ≡ place_of self i }
+    {
+        match self {
+            Table::Destinations => DESTINATIONS + 4 * i,
+            Table::Aliases => ALIASES + 4 * i,
+        }
+    }
+
+    // Its row i.
+    pub fn row(self, i: usize, numbers: &[u32]) -> PairRow
+        requires { place_of self i + 4 ≤ length numbers.now }
+        ensures { result ≡ pair_at numbers.now (place_of self i) }
+    {
+        let n = self.place(i);
+        PairRow {
+            name: span_at(n, numbers),
+            to: span_at(n + 2, numbers),
+        }
+    }
+
+    // Its row i, put.
+    pub fn put(self, i: usize, x: PairRow, numbers: &mut [u32])
+        requires room { place_of self i + 4 ≤ length numbers.old }
+        requires small { PairSmall x }
+        ensures { numbers.new ≡ put_pair numbers.old (place_of self i) x }
+    {
+        let n = self.place(i);
+        put_span(n, x.name, numbers);
+        put_span(n + 2, x.to, numbers);
     }
 }
 
-// Four numbers put at a place.
-pub fn put_pair(numbers: &mut [u32], n: usize, x: PairRow)
-    requires room { n + 4 ≤ length numbers.old }
-    requires small { PairSmall x }
-    ensures { numbers.new ≡ put_pair numbers.old n x }
+// The row of link i.
+pub fn link_at(i: usize, numbers: &[u32]) -> LinkRow
+    requires { 7 * i + 7 ≤ length numbers.now }
+    ensures { result ≡ link_at numbers.now (7 * i) }
 {
-    put_span(numbers, n, x.name);
-    put_span(numbers, n + 2, x.to);
-}
-
-// The seven numbers at a place.
-pub fn link_at(numbers: &[u32], n: usize) -> LinkRow
-    requires { n + 7 ≤ length numbers.now }
-    ensures { result ≡ link_at numbers.now n }
-{
+    let n = 7 * i;
     LinkRow {
         place: numbers[n] as usize,
         consumed: numbers[n + 1] as usize,
-        text: span_at(numbers, n + 2),
-        goal: span_at(numbers, n + 4),
+        text: span_at(n + 2, numbers),
+        goal: span_at(n + 4, numbers),
         kind: LinkKind::from(numbers[n + 6]),
     }
 }
 
-// Seven numbers put at a place.
-pub fn put_link(numbers: &mut [u32], n: usize, x: LinkRow)
-    requires room { n + 7 ≤ length numbers.old }
+// The row of link i, put.
+pub fn put_link(i: usize, x: LinkRow, numbers: &mut [u32])
+    requires room { 7 * i + 7 ≤ length numbers.old }
     requires small { LinkSmall x }
-    ensures { numbers.new ≡ put_link numbers.old n x }
+    ensures { numbers.new ≡ put_link numbers.old (7 * i) x }
 {
+    let n = 7 * i;
     numbers[n] = x.place as u32;
     numbers[n + 1] = x.consumed as u32;
-    put_span(numbers, n + 2, x.text);
-    put_span(numbers, n + 4, x.goal);
+    put_span(n + 2, x.text, numbers);
+    put_span(n + 4, x.goal, numbers);
     numbers[n + 6] = x.kind as u32;
 }

@@ -116,15 +116,12 @@ barren-opened : (s : List ℕ) (n : ℕ) → taking 0x60 0x3C false 0 s ≡ Some
 barren-opened s n e h f o i k l g =
     ap (tried rst.embedded) (at_tick s i (omega arith) g) ∙ unlinked (0x60 ∷ drop (suc i) s) (tick-opened s n i e l g h f o)
 
--- none begins at the front, a backtick, if an unescaped one stands before the first <
+-- none begins at the front, a backtick with r behind it, if an unescaped one stands before the first <
 pub unbracketed-none :
-    (s : List ℕ) (n : ℕ) → (0 < length s) × (get_or s 0 0 ≡ 0x60) → taking 0x60 0x3C false 0 (drop 1 s) ≡ Some n → n + 1 < length s → get_or s (n + 1) 0 ≡ 0x60
+    (s r : List ℕ) (n : ℕ) → (0 < length s) × (get_or s 0 0 ≡ 0x60) → r ≡ drop 1 s → taking 0x60 0x3C false 0 r ≡ Some n → n < length r → get_or r n 0 ≡ 0x60
     → NoLink s
-unbracketed-none s n h e l f =
-    let z : 1 + n ≡ n + 1 = omega arith in
-    ap (tried rst.embedded) (at_tick s 0 h.0 h.1)
-    ∙ unlinked (0x60 ∷ drop 1 s)
-    (embedded-unbracketed (drop 1 s) n e (omega (arith, length-drop 1 s)) (get_or-drop 1 s n 0 ∙ ap (λ (j : ℕ). get_or s j 0) z ∙ f))
+unbracketed-none s r n h i e l f =
+    ap (tried rst.embedded) (at_tick s 0 h.0 h.1 ∙ ap (λ (x : List ℕ). 0x60 ∷ x) (sym i)) ∙ unlinked (0x60 ∷ r) (embedded-unbracketed r n e l f)
 
 -- A text that begins with a backtick, at which no link begins.
 module _ (s : List ℕ) (h : (0 < length s) × (get_or s 0 0 ≡ 0x60)) (none-there : NoLink s) where

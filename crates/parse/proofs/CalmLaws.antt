@@ -2,6 +2,8 @@
 -- at j, or the text ends there, each round from i on finds nothing and ends at j or before it. So the rounds from i on are those from j
 -- on. Before a blank this is so where no line starts, since the `_` of a target may stand behind it.
 -- Assumes nothing.
+use Rattle.std.proofs.Common.{Option, Some, None}
+use Rattle.std.specs.Prelude.{IfSome}
 use Prim.Native.Nat.{ℕ, zero, suc, ◌+◌, ◌-◌, ◌<◌, ◌≤◌}
 use native.Mathlib.Nat.{le_refl}
 use native.Mathlib.Omega.{arith}
@@ -24,10 +26,26 @@ use Rattle.restructured_text.proofs.CalmLaws.{calm-drop, calm-text2dest, calm-te
 use Rattle.parse.specs.Link.{Scanned, nothing, behind, or_else}
 use Rattle.parse.specs.Forms.{alias, destination, anonymous, named, reference, tried, rst}
 use Rattle.parse.specs.Scan.{later, is_lf, lfs_of, is_opening, opening_of, reference_at, block_at, followed, inline_at, is_start, is_plain, passed_of, text_round, blank_round, line_round, round_of, rounds}
-use Rattle.parse.specs.Inner.{Calm, Lineless, Behind, Edge, Skips}
+use Rattle.parse.specs.Inner.{Behind, Skips, Passes}
 use Rattle.parse.proofs.FormsLaws.{tried-next}
 use Rattle.parse.proofs.ScanLaws.{later-stops, later-passes, rounds-end, rst-consuming}
 use Rattle.parse.proofs.RoundLaws.{or_go, round-at, blank-at}
+
+-- from place i on and before place j of s no byte passes the test
+abbrev Without : (ℕ → Bool) → ℕ → ℕ → List ℕ → Type 0
+Without f i j s = (k : ℕ) → i ≤ k → k < j → f (get_or s k 0) ≡ false
+
+-- none is _ or a backtick
+abbrev pub CalmFrom : ℕ → ℕ → List ℕ → Type 0
+CalmFrom i j s = Without (is_stop 0x5F 0x60) i j s
+
+-- none is LF
+abbrev pub LinelessFrom : ℕ → ℕ → List ℕ → Type 0
+LinelessFrom i j s = Without is_lf i j s
+
+-- s ends at place j; or LF stands there, behind a byte that (f) passes
+abbrev pub Edge : ℕ → List ℕ → Type 0
+Edge j s = (length s ≡ j) ⊎ Behind is_lf j s
 
 -- What is found at the front of calm text x, with z behind it: nothing, or LF and more.
 module _ (x z : List ℕ) (h : calm x ≡ true) (e : Ended z) where
@@ -185,7 +203,7 @@ module _ (s : List ℕ) (j : ℕ) (l : j ≤ length s) (g : (length s ≡ j) ⊎
           let b = bytes-before is_plain s j w.0 (break-start (get_or s j 0) w.3) j (c + 1) (omega arith) (omega arith) in
           omega (arith, b, bytes_count is_plain (drop (c + 1) s) (c + 1))
 
-  module _ (i : ℕ) (h : i ≤ j) (q : Calm i j s) where
+  module _ (i : ℕ) (h : i ≤ j) (q : CalmFrom i j s) where
     part : List ℕ
     part = take (j - i) (drop i s)
 
@@ -216,14 +234,14 @@ module _ (s : List ℕ) (j : ℕ) (l : j ≤ length s) (g : (length s ≡ j) ⊎
 
   -- no block is found from place i on: LF stands at j, or s ends there; or no line starts
   abbrev Blockless : Bool → ℕ → Type 0
-  Blockless start i = Ended (drop j s) ⊎ ((start ≡ false) × Lineless i j s)
+  Blockless start i = Ended (drop j s) ⊎ ((start ≡ false) × LinelessFrom i j s)
 
   blockless-later : (start : Bool) (i m : ℕ) → i ≤ m → Blockless start i → Blockless false m
   blockless-later start i m h (inl e) = inl e
   blockless-later start i m h (inr w) = inr (refl, λ k a b. w.1 k (omega arith) b)
 
   -- a round from place i on: it passes blanks and some bytes, and ends by j, or finds that there is nothing left
-  module _ (i : ℕ) (h : i < j) (q : Calm i j s) (start : Bool) (o : Blockless start i) where
+  module _ (i : ℕ) (h : i < j) (q : CalmFrom i j s) (start : Bool) (o : Blockless start i) where
     a : ℕ
     a = i + lfs_of (drop i s)
 
@@ -238,11 +256,11 @@ module _ (s : List ℕ) (j : ℕ) (l : j ≤ length s) (g : (length s ≡ j) ⊎
     unfolding c
     short-c = reach is_space plain-space a short-a
 
-    later-calm : (m : ℕ) → i ≤ m → Calm m j s
+    later-calm : (m : ℕ) → i ≤ m → CalmFrom m j s
     later-calm m b k d e = q k (omega arith) e
 
     -- at no line start there are no LFs
-    no-lfs : Lineless i j s → lfs_of (drop i s) ≡ 0
+    no-lfs : LinelessFrom i j s → lfs_of (drop i s) ≡ 0
     no-lfs w =
         let b = bytes-stop is_lf s i (omega arith) (w i (le_refl i) h) in
         omega (arith, b, bytes_count is_lf (drop i s) i)
@@ -251,7 +269,7 @@ module _ (s : List ℕ) (j : ℕ) (l : j ≤ length s) (g : (length s ≡ j) ⊎
     unfolding a
     line-is = ⊎_elim (λ e. calm-line a short-a.0 (later-calm a (omega arith)) e _) none o
       where
-        none : (start ≡ false) × Lineless i j s → line_round rst (start || ltb 0 (lfs_of (drop i s))) (drop a s) ≡ blank_round rst (start || ltb 0 (lfs_of (drop i s))) (drop a s)
+        none : (start ≡ false) × LinelessFrom i j s → line_round rst (start || ltb 0 (lfs_of (drop i s))) (drop a s) ≡ blank_round rst (start || ltb 0 (lfs_of (drop i s))) (drop a s)
         none w =
             let e : (start || ltb 0 (lfs_of (drop i s))) ≡ false = ap (λ (b : Bool). b || ltb 0 (lfs_of (drop i s))) w.0 ∙ ap (ltb 0) (no-lfs w.1) in
             subst⁻¹ (λ (b : Bool). line_round rst b (drop a s) ≡ blank_round rst b (drop a s)) e (line-none (drop a s))
@@ -284,12 +302,12 @@ module _ (s : List ℕ) (j : ℕ) (l : j ≤ length s) (g : (length s ≡ j) ⊎
             inl (later-stops rst rst-consuming start s i (omega arith) nothing e ∙ sym (rounds-end rst false s j (omega arith)))
 
   -- round after round
-  rounds-calm : (k i : ℕ) → j ≤ i + k → i < j → Calm i j s → (start : Bool) → Blockless start i → rounds rst 0 start i (drop i s) ≡ rounds rst 0 false j (drop j s)
+  rounds-calm : (k i : ℕ) → j ≤ i + k → i < j → CalmFrom i j s → (start : Bool) → Blockless start i → rounds rst 0 start i (drop i s) ≡ rounds rst 0 false j (drop j s)
   rounds-calm zero i b h q start o = absurd (omega arith)
   rounds-calm (suc k) i b h q start o = go (rounds-calm k) (round-goes i h q start o)
     where
       go :
-          ((m : ℕ) → j ≤ m + k → m < j → Calm m j s → (t : Bool) → Blockless t m → rounds rst 0 t m (drop m s) ≡ rounds rst 0 false j (drop j s))
+          ((m : ℕ) → j ≤ m + k → m < j → CalmFrom m j s → (t : Bool) → Blockless t m → rounds rst 0 t m (drop m s) ≡ rounds rst 0 false j (drop j s))
           → (rounds rst 0 start i (drop i s) ≡ rounds rst 0 false j (drop j s)) ⊎ ((m : ℕ) × ((rounds rst 0 start i (drop i s) ≡ rounds rst 0 false m (drop m s)) × (i < m) × (m ≤ j)))
           → rounds rst 0 start i (drop i s) ≡ rounds rst 0 false j (drop j s)
       go ih (inl e) = e
@@ -301,25 +319,27 @@ module _ (s : List ℕ) (j : ℕ) (l : j ≤ length s) (g : (length s ≡ j) ⊎
           same : j ≤ m → rounds rst 0 start i (drop i s) ≡ rounds rst 0 false j (drop j s)
           same x = let z : m ≡ j = omega arith in e ∙ ap (λ (n : ℕ). rounds rst 0 false n (drop n s)) z
 
-  skips : (start : Bool) (i : ℕ) → i ≤ j → Calm i j s → Blockless start i → Skips start i j s
+  skips : (start : Bool) (i : ℕ) → i ≤ j → CalmFrom i j s → Blockless start i → Skips start i j s
   skips start i h q o = (h, l, λ d. rounds-calm j i (omega arith) d q start o)
 
 -- up to the end of a line
-pub calm-skips : (s : List ℕ) (j : ℕ) → j ≤ length s → Edge j s → (i : ℕ) → i ≤ j → Calm i j s → (start : Bool) → Skips start i j s
+pub calm-skips : (s : List ℕ) (j : ℕ) → j ≤ length s → Edge j s → (i : ℕ) → i ≤ j → CalmFrom i j s → (start : Bool) → Skips start i j s
 calm-skips s j l g i h q start = skips s j l (⊎_elim inl (λ w. inr (w.0, w.1, w.2, rw w.3 refl)) g) start i h q (inl ended)
   where
     ended : Ended (drop j s)
     ended = ⊎_elim (λ e. subst⁻¹ Ended (drop-end s j (omega arith)) tt) (λ w. subst⁻¹ Ended (drop-next s j w.0) (eqb-true (get_or s j 0) 10 w.3)) g
 
 -- up to a blank, where no line starts
-pub gap-skips : (s : List ℕ) (i j : ℕ) → i ≤ j → Behind is_space j s → Calm i j s → Lineless i j s → Skips false i j s
+pub gap-skips : (s : List ℕ) (i j : ℕ) → i ≤ j → Behind is_space j s → CalmFrom i j s → LinelessFrom i j s → Skips false i j s
 gap-skips s i j h w q o =
     skips s j (omega (arith, w.0)) (inr (w.0, w.1, w.2, rw w.3 (or-true (is_lf (get_or s j 0))))) false i h q (inr (refl, o))
 
--- The last place r from i to k at which a line or a word ends, or i: up to it the text is passed, where it is calm up to k.
-module _ (s : List ℕ) (i k r : ℕ) (h : k ≤ length s) (q : Calm i k s) where
-  pub lines-skip : (i ≤ r) × (r ≤ k) × (i < r → Behind is_lf r s) → (start : Bool) → Skips start i r s
-  lines-skip (a, b, f) start = (a, omega arith, λ d. (calm-skips s r (omega arith) (inr (f d)) i a (λ n x y. q n x (omega arith)) start).2 d)
+-- The last place between i and k at which a line or a word ends: up to it the text is passed, where it is calm up to k.
+module _ (s : List ℕ) (i k : ℕ) (h : k ≤ length s) (q : CalmFrom i k s) where
+  pub lines-pass : (r : Option ℕ) → IfSome r (λ j. (i < j) × (j ≤ k) × Behind is_lf j s) → IfSome r (λ j. (start : Bool) → Passes start i j s)
+  lines-pass (Some j) (d, b, f) = λ start. ((λ e. d), calm-skips s j (omega arith) (inr f) i (omega arith) (λ n x y. q n x (omega arith)) start)
+  lines-pass None w = tt
 
-  pub words-skip : Lineless i k s → (i ≤ r) × (r ≤ k) × (i < r → Behind is_space r s) → Skips false i r s
-  words-skip o (a, b, f) = (a, omega arith, λ d. (gap-skips s i r a (f d) (λ n x y. q n x (omega arith)) (λ n x y. o n x (omega arith))).2 d)
+  pub words-pass : LinelessFrom i k s → (r : Option ℕ) → IfSome r (λ j. (i < j) × (j ≤ k) × Behind is_space j s) → IfSome r (λ j. Passes false i j s)
+  words-pass o (Some j) (d, b, f) = ((λ e. d), gap-skips s i j (omega arith) f (λ n x y. q n x (omega arith)) (λ n x y. o n x (omega arith)))
+  words-pass o None w = tt

@@ -1,7 +1,8 @@
 -- Trying the forms of `rst`, by what each parser finds: the first one that finds a link says which link it is. The strings of a link
 -- stand in the first bytes of the scratch, as many as the link consumes, so that what is written behind them does not matter.
 -- Assumes nothing.
-use Rattle.std.proofs.Common.{Result, Ok, Err}
+use Rattle.std.proofs.Common.{Option, Some, Result, Ok, Err}
+use Rattle.std.specs.Result.{result_ok}
 use Rattle.restructured_text.specs.declared.ParseError.{ParseError}
 use Rattle.restructured_text.specs.declared.ParseError.TheVariants.{NotFound, NoRoom}
 use Rattle.restructured_text.specs.Spans.{Spans}
@@ -23,6 +24,11 @@ use Rattle.parse.specs.Link.{Kind, Scanned, text2dest, text-label2dest, text2lab
 use Rattle.parse.specs.Forms.{Form, alias, destination, anonymous, named, reference, tried, rst}
 use Rattle.parse.specs.Scan.{consumed_of, followed}
 use Rattle.parse.specs.Inner.{NoBlock}
+
+-- what `x.ok()?` goes on with
+pub ok-some : {X E : Type 0} (x : Result X E) {o : Option X} {a : X} → o ≡ result_ok x → o ≡ Some a → x ≡ Ok a
+ok-some (Ok b) e f = cc
+ok-some (Err b) e f = cc
 
 -- What a parser found, z, by its answer x, which is y: the scratch d is long enough, and was left as d'.
 pub answered : (s d d' : List ℕ) (z : Link) (x y : Result Spans ParseError) → length s ≤ length d → strings_of x d' ≡ lent s d z → x ≡ y → z ≡ strings_of y d'

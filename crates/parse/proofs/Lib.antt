@@ -1,4 +1,5 @@
--- `CasesHold` computes the worked cases; the others are the laws that specs/Lib.antt lists, and what they need.
+-- `CasesHold` computes the worked cases; `Named` holds laws that docs/ names and that no other proof uses now; the others are the laws that
+-- specs/Lib.antt lists, and what they need.
 pub mod ScanLaws
 pub mod LinksLaws
 pub mod AppendingLaws
@@ -12,4 +13,5 @@ pub mod CalmLaws
 pub mod OnwardLaws
 pub mod SingleLaws
 pub mod SizeLaws
+pub mod Named
 pub mod CasesHold

@@ -1,7 +1,8 @@
 -- The laws of specs/Single.antt, by the code's tests: which places are refused; how two strings that stand in a scratch are handed
 -- over; what the call answers. A scratch as long as the longest document is enough for the scanner and holds what it finds.
 -- Assumes nothing.
-use Rattle.std.proofs.Common.{Some, None, Result, Err}
+use Rattle.std.proofs.Common.{Option, Some, None, Result, Ok, Err}
+use Rattle.std.specs.Prelude.{is_some, is_ok, MatchResult}
 use Rattle.restructured_text.specs.declared.ParseError.{ParseError}
 use Rattle.restructured_text.specs.declared.ParseError.TheVariants.{NotFound, NoRoom}
 use Prim.Native.Nat.{ℕ, ◌+◌, ◌-◌, ◌<◌, ◌≤◌}
@@ -14,7 +15,7 @@ use native.Mathlib.Omega.{arith}
 use lib.ListN.{length, take, drop, replicate, length-drop, length-replicate}
 use borrow.Author.Tests.{lt-ltb, le-ltb, eq-eqb, ne_eqb}
 use Rattle.rst_bytes.specs.Domain.{char_of, outside_of}
-use Rattle.rst_bytes.proofs.Lists.{part-from}
+use Rattle.rst_bytes.proofs.Lists.{part-from, drop-end}
 use Rattle.rst_bytes.proofs.TestLaws.{lt-or-le}
 use Rattle.restructured_text.specs.declared.Span.{Span}
 use Rattle.parse.specs.declared.Link.{Link}
@@ -47,24 +48,32 @@ module _ (place : ℕ) (s : List ℕ) where
   unfolding is_place
   within t h e = rw (le-ltb (length s) place h, e, is_place)
 
-  pub place_end : place ≡ length s → true ≡ is_place place s
-  place_end e = sym (within false (omega arith) (inside-end (drop place s) (omega (arith, length-drop place s))))
+  pub place_end : place ≡ length s → eqb place (length s) ≡ is_place place s
+  place_end e = eq-eqb place (length s) e ∙ sym (within false (omega arith) (inside-end (drop place s) (omega (arith, length-drop place s))))
 
-  -- at the end or past it
-  pub place-beyond : length s ≤ place → eqb place (length s) ≡ is_place place s
-  place-beyond h = ⊎_elim past end (lt-or-le (length s) place)
-    where
-      past : length s < place → eqb place (length s) ≡ is_place place s
-      past a = ne_eqb place (length s) (λ e. absurd (omega arith)) ∙ place-past a
-
-      end : place ≤ length s → eqb place (length s) ≡ is_place place s
-      end a = let z : place ≡ length s = omega arith in eq-eqb place (length s) z ∙ place_end z
-
-  pub place-starts : (n point : ℕ) → place < length s → char_of (drop place s) ≡ Some (n, point) → true ≡ is_place place s
+  place-starts : (n point : ℕ) → place < length s → char_of (drop place s) ≡ Some (n, point) → true ≡ is_place place s
   place-starts n point h e = sym (within false (omega arith) (inside-starts (drop place s) n point (omega (arith, length-drop place s)) e))
 
-  pub place_inside : place < length s → char_of (drop place s) ≡ None → false ≡ is_place place s
+  place_inside : place < length s → char_of (drop place s) ≡ None → false ≡ is_place place s
   place_inside h e = sym (within true (omega arith) (inside-nothing (drop place s) (omega (arith, length-drop place s)) e))
+
+  -- elsewhere than at the end it is one where a character starts; past it none does
+  pub place-else : (place ≡ length s → ⊥) → is_some (char_of (drop place s)) ≡ is_place place s
+  unfolding char_of
+  place-else h = ⊎_elim past before (lt-or-le (length s) place)
+    where
+      past : length s < place → is_some (char_of (drop place s)) ≡ is_place place s
+      past a = ap (λ (r : List ℕ). is_some (char_of r)) (drop-end s place (omega arith)) ∙ place-past a
+
+      before : place ≤ length s → is_some (char_of (drop place s)) ≡ is_place place s
+      before a = go (char_of (drop place s)) refl
+        where
+          at : place < length s
+          at = ⊎_elim (λ b. b) (λ b. absurd (h (omega arith))) (lt-or-le place (length s))
+
+          go : (x : Option (ℕ × ℕ)) → char_of (drop place s) ≡ x → is_some x ≡ is_place place s
+          go (Some (n, point)) e = place-starts n point at e
+          go None e = place_inside at e
 
 -- a place of the document is not past it
 pub place-le : (place : ℕ) (s : List ℕ) → true ≡ is_place place s → place ≤ length s
@@ -110,6 +119,17 @@ ends-within :
     (a b : Span) (s : List ℕ) (place n m k : ℕ) → length s ≤ n → (0 < k) × (m + k ≤ length (drop place s))
     → (a.start + a.len ≤ k) × (b.start + b.len ≤ k) → (a.start + a.len ≤ n) × (b.start + b.len ≤ n)
 ends-within a b s place n m k h v w = (omega (arith, length-drop place s), omega (arith, length-drop place s))
+
+-- what `x.map_err(f)?` goes on with, and what it returns where f always gives d
+pub mapped :
+    {X E D : Type 0} (Q : E → Type 0) (x : Result X E) (r : Result X D) {a : X} → MatchResult x (λ y. r ≡ Ok y) Q → is_ok r ≡ is_ok x → r ≡ Ok a
+    → x ≡ Ok a
+mapped Q (Ok b) r e h f = cc
+mapped Q (Err b) r e h f = absurd (true≢false (sym (ap is_ok f) ∙ h))
+
+pub unmapped : {X E D : Type 0} (x : Result X E) (r : Result X D) {d : D} → is_ok r ≡ is_ok x → r ≡ Err d → (b : E) × (x ≡ Err b)
+unmapped (Ok b) r h f = absurd (true≢false (sym h ∙ ap is_ok f))
+unmapped (Err b) r h f = (b, refl)
 
 -- where nothing is found, whatever the reason
 pub handed-none : (e : ParseError) (f g d : List ℕ) → refusal 9 0 f g ≡ handed f g (scanned_of (Err e) d)

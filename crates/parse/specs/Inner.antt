@@ -4,19 +4,20 @@
 use Rattle.std.specs.Prelude.{Option, Some, None, Result, Ok, Err}
 use Rattle.restructured_text.specs.declared.ParseError.{ParseError}
 use Rattle.restructured_text.specs.declared.ParseError.TheVariants.{NotFound, NoRoom}
-use Rattle.std.specs.Prelude.{ℕ, ◌+◌, ◌-◌, ◌<◌, ◌≤◌, ◌≡◌, List, [], ◌∷◌, Bool, true, false, ◌⊎◌, ltb, length, drop, get_or}
+use Rattle.std.specs.Prelude.{ℕ, ◌+◌, ◌-◌, ◌<◌, ◌≤◌, ◌≡◌, List, [], ◌∷◌, Bool, true, false, ltb, length, drop, get_or}
 use Rattle.std.specs.declared.ops.ControlFlow.{ControlFlow}
 use Rattle.std.specs.declared.ops.ControlFlow.TheVariants.{Break, Continue}
-use Rattle.rst_bytes.specs.Escaped.{is_stop, taking}
+use Rattle.rst_bytes.specs.Escaped.{taking}
 use Rattle.rst_bytes.specs.Line.{is_space}
 use Rattle.restructured_text.specs.declared.Span.{Span}
 use Rattle.restructured_text.specs.Delimited.{backticked_of}
 use Rattle.parse.specs.declared.Known.{Known}
-use Rattle.parse.specs.declared.Next.{Next}
+use Rattle.parse.specs.declared.refusal.Refusal.{Refusal}
 use Rattle.parse.specs.declared.Link.{Link}
 use Rattle.parse.specs.declared.Link.TheVariants.{Text2Dest, TextLabel2Dest, Text2Label, Label2Dest, Label2Label}
 use Rattle.parse.specs.Link.{Kind, found, nothing, found_of, FoundEnds}
 use Rattle.parse.specs.Forms.{tried, rst}
+use Rattle.parse.specs.Refusal.{number_of, bytes_of}
 use Rattle.parse.specs.Scan.{Round, ends, passes, is_lf, is_plain, rounds}
 use Rattle.parse.specs.Single.{Outcome, refusal, acceptance, handed}
 
@@ -66,7 +67,7 @@ abbrev pub Holds : ℕ → Known → List ℕ → List ℕ → Type 0
 Holds m known marks s =
     Shut m known.shut s × Barren m known.barren s × Blockless m known.blocks s × Barred marks s
 
--- what is known of every text
+-- what is known of every text; no contract cites it, but laws of the layer above do
 abbrev pub nothing_known : Known
 nothing_known = record { shut = 0; barren = 0; blocks = 0; failed = 0; marked = 0 }
 
@@ -114,9 +115,6 @@ TrueBehind s marks known (Ok x) = Holds 0 known (drop (link_end x) marks) (drop 
 TrueBehind s marks known (Err NotFound) = Unit {0}
 TrueBehind s marks known (Err NoRoom) = Unit {0}
 
-abbrev pub NextHolds : List ℕ → List ℕ → Next → Type 0
-NextHolds s marks r = TrueBehind s marks r.known r.scan
-
 -- a round, by what its first step says with the scratch as it was left, and by what it is if that step goes on
 abbrev pub going_on : {C : Type 0} → ControlFlow (Option Link) C → List ℕ → (C → Round) → Round
 going_on (Break x) scratch r = ends (found_of x scratch)
@@ -130,29 +128,17 @@ abbrev pub StepEnds : {C : Type 0} → ControlFlow (Option Link) C → Type 0
 StepEnds (Break x) = FoundEnds x
 StepEnds (Continue c) = Unit {0}
 
--- from place i on and before place j of s no byte passes the test
-abbrev pub Without : (ℕ → Bool) → ℕ → ℕ → List ℕ → Type 0
-Without f i j s = (k : ℕ) → i ≤ k → k < j → f (get_or s k 0) ≡ false
-
--- none is _ or a backtick
-abbrev pub Calm : ℕ → ℕ → List ℕ → Type 0
-Calm i j s = Without (is_stop 0x5F 0x60) i j s
-
--- none is LF
-abbrev pub Lineless : ℕ → ℕ → List ℕ → Type 0
-Lineless i j s = Without is_lf i j s
-
 -- a byte of that kind stands at place j of s, behind one that (f) passes
 abbrev pub Behind : (ℕ → Bool) → ℕ → List ℕ → Type 0
 Behind f j s = (j < length s) × (0 < j) × (is_plain (get_or s (j - 1) 0) ≡ true) × (f (get_or s j 0) ≡ true)
 
--- s ends at place j; or LF stands there, behind a byte that (f) passes
-abbrev pub Edge : ℕ → List ℕ → Type 0
-Edge j s = (length s ≡ j) ⊎ Behind is_lf j s
-
 -- the rounds from place i on of s are those from place j on
 abbrev pub Skips : Bool → ℕ → ℕ → List ℕ → Type 0
 Skips start i j s = (i ≤ j) × (j ≤ length s) × (i < j → rounds rst 0 start i (drop i s) ≡ rounds rst 0 false j (drop j s))
+
+-- and place j is behind place i, unless s ends at i
+abbrev pub Passes : Bool → ℕ → ℕ → List ℕ → Type 0
+Passes start i j s = (i < length s → i < j) × Skips start i j s
 
 -- where the strings of a link stand
 abbrev pub first_of : Link → Span
@@ -182,15 +168,15 @@ abbrev pub LinkWithin : ℕ → Link → Type 0
 LinkWithin n x = ((first_of x).start + (first_of x).len ≤ n) × ((second_of x).start + (second_of x).len ≤ n)
 
 -- what comes back of a link of that case, with the buffers as they were left
-abbrev pub handed_of : Kind → ℕ → ℕ → Result (Span × Span) ℕ → List ℕ → List ℕ → Outcome
+abbrev pub handed_of : Kind → ℕ → ℕ → Result (Span × Span) Refusal → List ℕ → List ℕ → Outcome
 handed_of kind skipped consumed (Ok (a, b)) f g = acceptance kind a.len b.len skipped consumed f g
-handed_of kind skipped consumed (Err n) f g = refusal 7 n f g
+handed_of kind skipped consumed (Err r) f g = refusal (number_of r) (bytes_of r) f g
 
 -- the strings x and y of a link were handed over to the buffers f and g, which are f' and g' then: whichever case it is
-abbrev pub HandsOver : Result (Span × Span) ℕ → List ℕ → List ℕ → List ℕ → List ℕ → List ℕ → List ℕ → Type 0
+abbrev pub HandsOver : Result (Span × Span) Refusal → List ℕ → List ℕ → List ℕ → List ℕ → List ℕ → List ℕ → Type 0
 HandsOver r f' g' f g x y =
     (kind : Kind) (skipped consumed : ℕ) → handed_of kind skipped consumed r f' g' ≡ handed f g (found kind x y skipped consumed)
 
-abbrev pub HandedFronts : Result (Span × Span) ℕ → Type 0
+abbrev pub HandedFronts : Result (Span × Span) Refusal → Type 0
 HandedFronts (Ok (a, b)) = (a.start ≡ 0) × (b.start ≡ 0)
-HandedFronts (Err n) = Unit {0}
+HandedFronts (Err r) = Unit {0}

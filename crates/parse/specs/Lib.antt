@@ -3,13 +3,15 @@
 -- Each definition, and the public function whose contract is an equation with it, on every input, place, scratch and buffer:
 --   Scan      scan_of      take_link, next_link    the first link of a text: rounds (a) to (f)
 --   Single    single_of    single_link             number and values, and both buffers
+--   Refusal   number_of    Refusal::number         a refusal's number in 01's table
+--             bytes_of     Refusal::bytes          the place or size that comes with it, or 0
 -- Link says what an answer means with the scratch as the scanner left it, that a scratch as long as the text is enough and is asked
 -- for, and that the strings end within as many bytes of it as are consumed (Ends, part of the contract). Forms lists the parsers that
 -- are tried, and where. Single gives 01's number and values for each case of the single-link answer (outcome_of); its strings stand at
 -- the front of the buffers (Fronts, part of the contract). Links says what all links of a text are, one after the other. Inner and Place are
 -- what the contracts of private functions speak of, and Inner also what is known of backticks and blocks: `next_link` is handed such
--- knowledge and the marks that go with it, asks that it is true (Holds), and hands back what is true behind the link with the marks from
--- there on (NextHolds). Cases gathers worked cases, which proofs/CasesHold.antt computes.
+-- knowledge and the marks that go with it, asks that it is true (Holds), and leaves there what is true behind the link with the marks
+-- from there on (TrueBehind). Cases gathers worked cases, which proofs/CasesHold.antt computes.
 --
 -- Laws, proved in the file of proofs/ that is named, for the layers above; Laws defines what they speak of. Those marked * hold for any
 -- forms that consume at least one byte and no more than there are (`Forms.Consuming`), and reStructuredText's do (ScanLaws

@@ -10,7 +10,7 @@ pub fn unclosed(s: &[u8]) -> Option<usize>
     ensures { IfSome result (λ n. (n ≤ length s.now) × Shut 0 n s.now) }
 {
     let mut i = 1;
-    // No `for`: an escape takes two bytes.
+    // No `for`: an escape takes two bytes. An iterator over such units would hold this loop, behind one more contract.
     while i < s.len() {
         match s[i] {
             b'`' if s.get(i + 1) == Some(&b'_') => return None,

@@ -3,27 +3,22 @@
 // first backtick begins no link, none of them does. Where no `<` stands before the close none begins, and where two do none begins
 // before the first: so no part is tried more than twice.
 ghost use Rattle.std.specs.Prelude.{◌≡◌, true, false, ◌≤◌, ◌<◌, length, get_or};
-ghost use Rattle.rst_bytes.specs.Escaped.{is_stop, taking};
+ghost use Rattle.rst_bytes.specs.Escaped.{taking};
 ghost use Rattle.parse.specs.Link.{nothing};
 ghost use Rattle.parse.specs.Forms.{tried, rst};
 ghost use Rattle.parse.specs.Inner.{Barren, Opened};
 
 use rst_bytes::escaped::escaped;
+use rst_bytes::free::is_stop;
 
-// A backtick or `<`.
-#[tactic(auto, unfolding(rst_bytes::specs::Escaped::is_stop))]
-fn is_mark(b: u8) -> bool
-    ensures { result ≡ is_stop 0x60 0x3C b }
-{
-    matches!(b, b'`' | b'<')
-}
-
-// How many bytes stand before the first unescaped one of these.
+// How many bytes stand before the first unescaped backtick or `<`: all of them where none stands; and nothing where a wrong escape comes
+// first. `escaped` of `rst_bytes` refuses where one of these stands at the front. What it calls says the same as this, but a public one
+// would be one more promise of that crate, for this caller alone.
 fn marked(s: &[u8]) -> Option<usize>
     ensures { result ≡ taking 0x60 0x3C false 0 s.now }
 {
     match s.first() {
-        Some(&b) if is_mark(b) => Some(0),
+        Some(&b) if is_stop(b'`', b'<', b) => Some(0),
         _ => escaped(s, b'`', b'<'),
     }
 }
@@ -33,20 +28,15 @@ pub fn is_bracketed(s: &[u8]) -> bool
     requires { (0 < length s.now) × (get_or s.now 0 0 ≡ 0x60) }
     ensures { result ≡ false → tried rst.embedded s.now ≡ nothing }
 {
-    match marked(&s[1..]) {
-        Some(n) => s.get(n + 1) != Some(&b'`'),
-        None => true,
-    }
+    let rest = &s[1..];
+    marked(rest).is_none_or(|n| rest.get(n) != Some(&b'`'))
 }
 
 // Whether the first unescaped backtick or `<` is `<`.
 fn is_opened(s: &[u8]) -> bool
     ensures { result ≡ true → Opened s.now }
 {
-    match marked(s) {
-        Some(n) => s.get(n) == Some(&b'<'),
-        None => false,
-    }
+    marked(s).is_some_and(|n| s.get(n) == Some(&b'<'))
 }
 
 // A place before which no backtick begins an embedded link, whatever stands before the text: behind each of them no unescaped `<` stands
@@ -56,7 +46,8 @@ fn unbracketed(s: &[u8]) -> usize
     ensures barren { Barren 0 result s.now }
 {
     let mut i = 0;
-    // No `for`: a turn takes as many bytes as stand before the next `<`.
+    // No `for`: a turn takes as many bytes as stand before the next `<`. An iterator over such turns would hold this loop, behind one more
+    // contract.
     while i < s.len() {
         match marked(&s[i..]) {
             Some(n) => {

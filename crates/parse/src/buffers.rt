@@ -3,7 +3,7 @@ ghost use Rattle.std.specs.Prelude.{◌≡◌, ◌+◌, ◌≤◌, length};
 ghost use Rattle.restructured_text.specs.Strings.{part};
 ghost use Rattle.parse.specs.Link.{link_of};
 ghost use Rattle.parse.specs.Single.{is_place, handed, outcome_of, Fronts};
-ghost use Rattle.parse.specs.Inner.{first_of, second_of, with_parts, LinkWithin, HandsOver, HandedFronts};
+ghost use Rattle.parse.specs.Inner.{with_parts, LinkWithin, HandsOver, HandedFronts};
 
 use crate::{Link, Refusal};
 use restructured_text::Span;
@@ -14,13 +14,7 @@ use rst_bytes::domain::char_at;
 pub fn is_place(document: &[u8], place: usize) -> bool
     ensures { result ≡ is_place place document.now }
 {
-    if document.len() <= place {
-        return place == document.len();
-    }
-    match char_at(document, place) {
-        Some((_, _)) => true,
-        None => false,
-    }
+    place == document.len() || char_at(document, place).is_some()
 }
 
 // The strings that a and b name in the scratch, written to the front of the two buffers, if both fit.
@@ -30,42 +24,20 @@ fn write_both(
     scratch: &[u8],
     first: &mut [u8],
     second: &mut [u8],
-) -> Result<(Span, Span), usize>
+) -> Result<(Span, Span), Refusal>
     requires { (a.start + a.len ≤ length scratch.now) × (b.start + b.len ≤ length scratch.now) }
     ensures outcome { HandsOver result first.new second.new first.old second.old (part a scratch.now) (part b scratch.now) }
     ensures fronts { HandedFronts result }
 {
     if first.len() < a.len {
-        return Err(a.len);
+        return Err(Refusal::OutputLen(a.len));
     }
     if second.len() < b.len {
-        return Err(b.len);
+        return Err(Refusal::OutputLen(b.len));
     }
     copy(a.of(scratch), first);
     copy(b.of(scratch), second);
-    Ok((
-        Span {
-            start: 0,
-            len: a.len,
-        },
-        Span {
-            start: 0,
-            len: b.len,
-        },
-    ))
-}
-
-// Where the two strings of a link stand.
-fn parts_of(x: Link) -> (Span, Span)
-    ensures { (result.0 ≡ first_of x) × (result.1 ≡ second_of x) }
-{
-    match x {
-        Link::Text2Dest(a, b, _, _)
-        | Link::TextLabel2Dest(a, b, _, _)
-        | Link::Text2Label(a, b, _, _)
-        | Link::Label2Dest(a, b, _, _)
-        | Link::Label2Label(a, b, _, _) => (a, b),
-    }
+    Ok((Span { start: 0, ..a }, Span { start: 0, ..b }))
 }
 
 // The link with its strings at other places.
@@ -92,9 +64,7 @@ pub fn hand_over(
     ensures outcome { outcome_of result first.new second.new ≡ handed first.old second.old (link_of x scratch.now) }
     ensures fronts { Fronts result }
 {
-    let (a, b) = parts_of(x);
-    match write_both(a, b, scratch, first, second) {
-        Ok((f, g)) => Ok(with_parts(x, f, g)),
-        Err(size) => Err(Refusal::OutputLen(size)),
-    }
+    let (a, b, _, _) = x.parts();
+    let (f, g) = write_both(a, b, scratch, first, second)?;
+    Ok(with_parts(x, f, g))
 }

@@ -1,9 +1,10 @@
-// The forms that are tried at one place, in their order.
-ghost use Rattle.std.specs.Prelude.{◌≡◌, true, false, ◌+◌, ◌≤◌, length, take, drop, get_or};
+// The forms that are tried at one place, in their order. The scratch is as long as the text, so that no parser lacks room: an error of one
+// says that its form is not there.
+ghost use Rattle.std.specs.Prelude.{◌≡◌, ◌+◌, ◌≤◌, length, take, drop, get_or};
 ghost use Rattle.rst_bytes.specs.Line.{is_space};
 ghost use Rattle.parse.specs.Link.{found_of, FoundEnds, behind};
 ghost use Rattle.parse.specs.Forms.{tried, rst};
-ghost use Rattle.parse.specs.Scan.{consumed_of, followed};
+ghost use Rattle.parse.specs.Scan.{consumed_of};
 ghost use Rattle.parse.specs.Inner.{Holds, long_from};
 ghost use Rattle.parse.specs.Place.{rest_of, found_at, Ready, Learns};
 
@@ -40,15 +41,14 @@ fn is_blank_at(s: &[u8], i: usize) -> bool
 pub fn is_long(s: &[u8]) -> bool
     ensures { result ≡ long_from 0 s.now }
 {
-    for (i, &b) in s.iter().enumerate() {
-        if b == b'\n' {
-            return is_blank_at(s, i + 1);
-        }
-        if SHORT_LINE_LEN_MAX <= i {
-            return true;
-        }
+    match s
+        .iter()
+        .take(SHORT_LINE_LEN_MAX + 1)
+        .position(|&b| b == b'\n')
+    {
+        Some(i) => is_blank_at(s, i + 1),
+        None => SHORT_LINE_LEN_MAX < s.len(),
     }
-    false
 }
 
 // How many bytes a link of n bytes consumes with the destination block that stands directly behind it, if one does. What stands in the
@@ -87,9 +87,7 @@ pub fn embedded(place: Place, scratch: &mut [u8], known: &mut Known) -> Option<L
         let m = with_unreported(place, n, scratch, known);
         return Some(Link::Text2Dest(a, b, place.at, m));
     }
-    let Ok((a, b, n)) = rst_text_label2dest(place.rest(), scratch) else {
-        return None;
-    };
+    let (a, b, n) = rst_text_label2dest(place.rest(), scratch).ok()?;
     let m = with_unreported(place, n, scratch, known);
     Some(Link::TextLabel2Dest(a, b, place.at, m))
 }
@@ -101,9 +99,7 @@ pub fn reference(place: Place, scratch: &mut [u8], known: &mut Known) -> Option<
     ensures ends { FoundEnds result }
     ensures known { Learns place.entry known.old known.new result }
 {
-    let Ok((a, b, n)) = rst_text2label(place.rest(), scratch) else {
-        return None;
-    };
+    let (a, b, n) = rst_text2label(place.rest(), scratch).ok()?;
     let m = with_unreported(place, n, scratch, known);
     Some(Link::Text2Label(a, b, place.at, m))
 }

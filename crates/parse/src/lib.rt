@@ -14,11 +14,11 @@ mod place;
 mod refusal;
 mod rounds;
 
-ghost use Rattle.std.specs.Prelude.{◌≡◌, ℕ};
+ghost use Rattle.std.specs.Prelude.{◌≡◌, ℕ, ◌+◌};
 ghost use Rattle.parse.specs.Link.{scanned_of, Ends, lent};
 ghost use Rattle.parse.specs.Scan.{scan_of};
 ghost use Rattle.parse.specs.Single.{outcome_of, single_of, Fronts};
-ghost use Rattle.parse.specs.Inner.{Holds, NextHolds};
+ghost use Rattle.parse.specs.Inner.{first_of, second_of, link_end, Holds, TrueBehind};
 
 use crate::buffers::{hand_over, is_place};
 use crate::calm::Calm;
@@ -32,7 +32,8 @@ use std::ops::ControlFlow;
 use targetless::mark;
 
 // A link: where its first string (text or name) and its second string (label, destination or alias target) stand, how many bytes
-// were skipped before it and how many it consumed.
+// were skipped before it and how many it consumed. Document 01 names this form, five cases with the same four parts. No equality is
+// derived: `Span` has none.
 #[derive(Clone, Copy)]
 pub enum Link {
     // An anonymous embedded link.
@@ -47,10 +48,26 @@ pub enum Link {
     Label2Label(Span, Span, usize, usize),
 }
 
+impl Link {
+    // The four parts, whichever case it is.
+    fn parts(self) -> (Span, Span, usize, usize)
+        ensures strings { (result.0 ≡ first_of self) × (result.1 ≡ second_of self) }
+        ensures end { result.2 + result.3 ≡ link_end self }
+    {
+        match self {
+            Link::Text2Dest(a, b, skipped, consumed)
+            | Link::TextLabel2Dest(a, b, skipped, consumed)
+            | Link::Text2Label(a, b, skipped, consumed)
+            | Link::Label2Dest(a, b, skipped, consumed)
+            | Link::Label2Label(a, b, skipped, consumed) => (a, b, skipped, consumed),
+        }
+    }
+}
+
 // What is known from a place on: before `shut` no backtick begins a part that is closed, before `barren` none begins an embedded link,
 // before `blocks` no block begins. Of the others no claim is made: how many long blocks were read that are none, and the place before
 // which those places are marked at which none begins.
-#[derive(Clone, Copy, Default)]
+#[derive(Clone, Copy, Debug, Default, PartialEq, Eq)]
 pub struct Known {
     pub shut: usize,
     pub barren: usize,
@@ -82,13 +99,6 @@ impl Known {
     }
 }
 
-// A scan's answer, and what is known from behind the link that was found, if one was.
-#[derive(Clone, Copy)]
-pub struct Next {
-    pub scan: Result<Link, ParseError>,
-    pub known: Known,
-}
-
 // The longest document.
 pub const DOCUMENT_LEN_MAX: usize = 16384;
 
@@ -97,50 +107,49 @@ pub fn take_link(s: &[u8], scratch: &mut [u8]) -> Result<Link, ParseError>
     ensures scan { scanned_of result scratch.new ≡ lent s.now scratch.old (scan_of s.now) }
     ensures ends { Ends result }
 {
-    let mut marks = [0u8; 1];
-    next_link(s, scratch, &mut marks, Known::default()).scan
+    next_link(s, scratch, &mut [], &mut Known::default())
 }
 
-// The same where something is known; what is known behind the link is handed back. It is `iterator` that goes from link to link so. This
-// alone of the public functions asks something of its caller: that what it hands in is true, as what it was handed back is. The marks
-// are one for each place of the text; where there are fewer, none is written.
-pub fn next_link(s: &[u8], scratch: &mut [u8], marks: &mut [u8], mut known: Known) -> Next
-    requires known { Holds 0 known marks.old s.now }
-    ensures scan { scanned_of result.scan scratch.new ≡ lent s.now scratch.old (scan_of s.now) }
-    ensures ends { Ends result.scan }
-    ensures known { NextHolds s.now marks.new result }
+// The same where something is known; where a link is found, `known` is left as what is known behind it. It is `iterator` that goes from link
+// to link so. This alone of the public functions asks something of its caller: that what it hands in is true, as what it was left is. The
+// marks are one for each place of the text; where there are fewer, none is set.
+pub fn next_link(
+    s: &[u8],
+    scratch: &mut [u8],
+    marks: &mut [u8],
+    known: &mut Known,
+) -> Result<Link, ParseError>
+    requires known { Holds 0 known.old marks.old s.now }
+    ensures scan { scanned_of result scratch.new ≡ lent s.now scratch.old (scan_of s.now) }
+    ensures ends { Ends result }
+    ensures known { TrueBehind s.now marks.new known.new result }
 {
     if scratch.len() < s.len() {
-        return Next {
-            scan: Err(ParseError::NoRoom),
-            known,
-        };
+        return Err(ParseError::NoRoom);
     }
     let mut i = 0;
     let mut input_start = true;
     let mut calm = Calm::default();
     // No `for`: a turn passes as many bytes as it finds.
     while i < s.len() {
-        let mut next = calm.pass(s, i, input_start);
-        if next == i {
-            known.mark(s, i, marks);
-            let place = Place {
-                text: s,
-                marks,
-                at: i,
-            };
-            match round(place, scratch, input_start, &mut known) {
-                ControlFlow::Break(found) => return next_of(s, found, known),
-                ControlFlow::Continue(place) => next = place,
+        i = match calm.pass(s, i, input_start) {
+            Some(next) => next,
+            None => {
+                known.mark(s, i, marks);
+                let place = Place {
+                    text: s,
+                    marks,
+                    at: i,
+                };
+                match round(place, scratch, input_start, known) {
+                    ControlFlow::Break(found) => return next_of(s, found, known),
+                    ControlFlow::Continue(next) => next,
+                }
             }
-        }
-        i = next;
+        };
         input_start = false;
     }
-    Next {
-        scan: Err(ParseError::NotFound),
-        known,
-    }
+    Err(ParseError::NotFound)
 }
 
 // The first link of the document from a place on; its strings are written to the front of the two buffers, or all of this is
@@ -160,14 +169,11 @@ pub fn single_link(
     if let Some(n) = first_outside(document) {
         return Err(Refusal::Character(n));
     }
-    if is_place(document, place) {
-        let mut scratch = [0u8; DOCUMENT_LEN_MAX];
-        match take_link(&document[place..], &mut scratch) {
-            Ok(x) => hand_over(x, &scratch, first, second),
-            // The scratch is long enough.
-            Err(_) => Err(Refusal::NoLink),
-        }
-    } else {
-        Err(Refusal::Place)
+    if !is_place(document, place) {
+        return Err(Refusal::Place);
     }
+    // As long as the longest document: so room never lacks, and no link is what an error says.
+    let mut scratch = [0u8; DOCUMENT_LEN_MAX];
+    let x = take_link(&document[place..], &mut scratch).map_err(|_| Refusal::NoLink)?;
+    hand_over(x, &scratch, first, second)
 }

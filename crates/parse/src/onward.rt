@@ -1,30 +1,14 @@
 // What a scan hands on to the next, which starts behind the link and counts places from there.
-ghost use Rattle.std.specs.Prelude.{◌≡◌, List, ℕ, ◌-◌, ◌<◌, ◌^◌};
+ghost use Rattle.std.specs.Prelude.{◌≡◌, List, ℕ};
 ghost use Rattle.std.specs.Option.{ok_or};
-ghost use Rattle.parse.specs.Inner.{link_end, known_from, EndsWithin, HoldsBehind, NextHolds};
+ghost use Rattle.parse.specs.Inner.{known_from, EndsWithin, HoldsBehind, TrueBehind};
 
-use crate::{Known, Link, Next};
+use crate::{Known, Link};
 use restructured_text::ParseError;
-
-impl Link {
-    // The place behind it.
-    fn end(self) -> usize
-        requires { link_end self < 2 ^ 64 }
-        ensures { result ≡ link_end self }
-    {
-        match self {
-            Link::Text2Dest(_, _, m, n)
-            | Link::TextLabel2Dest(_, _, m, n)
-            | Link::Text2Label(_, _, m, n)
-            | Link::Label2Dest(_, _, m, n)
-            | Link::Label2Label(_, _, m, n) => m + n,
-        }
-    }
-}
 
 impl Known {
     // What is known, with places counted from place n on.
-    fn from(self, n: usize) -> Known
+    fn behind(self, n: usize) -> Known
         ensures { result ≡ known_from n self }
     {
         Known {
@@ -38,19 +22,13 @@ impl Known {
 }
 
 // What was found as a scan's answer, and what is known of the text behind it, with whatever marks.
-pub fn next_of(s: &[u8], found: Option<Link>, known: Known) -> Next
+pub fn next_of(s: &[u8], found: Option<Link>, known: &mut Known) -> Result<Link, ParseError>
     requires { EndsWithin s.now found }
-    ensures scan { result.scan ≡ ok_or found ParseError.NotFound }
-    ensures known { (marks : List ℕ) → HoldsBehind s.now known marks found → NextHolds s.now marks result }
+    ensures scan { result ≡ ok_or found ParseError.NotFound }
+    ensures known { (marks : List ℕ) → HoldsBehind s.now known.old marks found → TrueBehind s.now marks known.new result }
 {
-    match found {
-        Some(link) => Next {
-            scan: Ok(link),
-            known: known.from(link.end()),
-        },
-        None => Next {
-            scan: Err(ParseError::NotFound),
-            known,
-        },
-    }
+    let link = found.ok_or(ParseError::NotFound)?;
+    let (_, _, skipped, consumed) = link.parts();
+    *known = known.behind(skipped + consumed);
+    Ok(link)
 }

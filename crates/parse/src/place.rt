@@ -5,7 +5,8 @@ ghost use Rattle.parse.specs.Inner.{NoBlock, Barred};
 
 use restructured_text::target::starts_target;
 
-// A place of a text, or its end. At places that are marked no block begins.
+// A place of a text, or its end. At places that are marked no block begins. The scratch that goes with it is no field: a ghost field beside
+// a `&mut` is not covered (NOT_COVERED.md of the language's guides).
 #[derive(Clone, Copy)]
 pub struct Place<'a> {
     pub text: &'a [u8],

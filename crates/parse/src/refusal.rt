@@ -2,7 +2,7 @@
 ghost use Rattle.std.specs.Prelude.{◌≡◌};
 ghost use Rattle.parse.specs.Refusal.{number_of, bytes_of};
 
-#[derive(Clone, Copy, PartialEq, Eq)]
+#[derive(Clone, Copy, Debug, PartialEq, Eq)]
 pub enum Refusal {
     // render is not 0 or 1.
     Render,
@@ -47,8 +47,7 @@ impl Refusal {
         ensures { result ≡ bytes_of self }
     {
         match self {
-            Refusal::Character(n) => n,
-            Refusal::OutputLen(n) => n,
+            Refusal::Character(n) | Refusal::OutputLen(n) => n,
             _ => 0,
         }
     }

@@ -4,7 +4,7 @@
 // goes on. What an earlier round learnt is handed on as places, so that the text before them is not read again and again; and with a link
 // that no block begins behind it. Once several long blocks were read that are none, the places of the text are marked at which none
 // begins: there none is read.
-ghost use Rattle.std.specs.Prelude.{◌≡◌, true, false, ◌||◌, ltb, List, ℕ, ◌≤◌, ◌<◌, length, get_or};
+ghost use Rattle.std.specs.Prelude.{◌≡◌, true, false, ◌<◌, length, get_or};
 ghost use Rattle.rst_bytes.specs.Line.{bytes_from};
 ghost use Rattle.parse.specs.Link.{nothing, found_of, FoundEnds, behind};
 ghost use Rattle.parse.specs.Forms.{tried, rst};
@@ -13,7 +13,6 @@ ghost use Rattle.parse.specs.Scan.{
   block_at,
   is_opening,
   reference_at,
-  followed,
   inline_at,
   is_start,
   is_plain,

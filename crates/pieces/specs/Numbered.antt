@@ -1,7 +1,6 @@
 -- The pieces of `rst_bytes` by number, and their answers in numbers. Each hands on the definition that its function promises.
 -- Assumes nothing.
-use Rattle.std.specs.Prelude.{Option, Some, None}
-use Rattle.std.specs.Prelude.{ℕ, List, length, take, drop, Bool, true, false, ltb, eqb}
+use Rattle.std.specs.Prelude.{ℕ, List, length, take, drop, Bool, true, false, ltb, eqb, Option, Some, None}
 use Rattle.rst_bytes.specs.Domain.{char_of, outside_of}
 use Rattle.rst_bytes.specs.Word.{is_word, word_of}
 use Rattle.rst_bytes.specs.Trim.{trim_of}
@@ -23,10 +22,6 @@ whether b = elim b [ true ↦ taken 0 | false ↦ none ]
 abbrev pub of_part : Option ℕ → Answer
 of_part (Some n) = taken n
 of_part None = none
-
-abbrev pub of_outside : Option ℕ → Answer
-of_outside (Some n) = taken n
-of_outside None = none
 
 abbrev pub of_character : Option (ℕ × ℕ) → Answer
 of_character (Some (len, point)) = record { accepted = 1; value = len; point = point }
@@ -79,7 +74,7 @@ line_piece_of kind s =
 abbrev pub piece_of : ℕ → ℕ → List ℕ → Answer
 piece_of kind parameter s =
     elim (eqb kind 1) [
-      | true ↦ of_outside (outside_of s)
+      | true ↦ of_part (outside_of s)
       | false ↦ elim (eqb kind 2) [
         | true ↦ of_character (char_of (drop parameter s))
         | false ↦ elim (eqb kind 3) [

@@ -1,9 +1,10 @@
 -- The parsers of `restructured_text` by number, and what their answers in numbers say: the definitions that its functions promise.
 -- Assumes nothing.
-use Rattle.std.specs.Prelude.{Option, Some, None}
+use Rattle.restructured_text.specs.declared.ParseError.{ParseError}
+use Rattle.restructured_text.specs.declared.ParseError.TheVariants.{NotFound, NoRoom}
 use Rattle.restructured_text.specs.Spans.{Spans}
 use Rattle.restructured_text.specs.declared.label.Label.{Label}
-use Rattle.std.specs.Prelude.{ℕ, List, [], ◌∷◌, Bool, true, false, eqb, length, take, drop}
+use Rattle.std.specs.Prelude.{ℕ, List, [], ◌∷◌, Bool, true, false, eqb, length, take, drop, Option, Some, None, Result, Ok, Err}
 use Rattle.restructured_text.specs.Strings.{Link, link, none, no_room}
 use Rattle.restructured_text.specs.Block.{BlockText, block, no_block, no-scratch, block_of}
 use Rattle.restructured_text.specs.Transform.{whole, refused, transform_of}
@@ -21,9 +22,12 @@ without accepted = record { accepted = accepted; first = 0; first_len = 0; secon
 abbrev pub one : ℕ → ℕ → ℕ → Said
 one start len n = record { accepted = 1; first = start; first_len = len; second = 0; second_len = 0; consumed = n }
 
-abbrev pub of_spans : Option Spans → Said
-of_spans (Some (a, b, n)) =
+abbrev pub both : Spans → Said
+both (a, b, n) =
     record { accepted = 1; first = a.start; first_len = a.len; second = b.start; second_len = b.len; consumed = n }
+
+abbrev pub of_spans : Option Spans → Said
+of_spans (Some found) = both found
 of_spans None = without 0
 
 abbrev pub of_label : Option (Label × ℕ) → Said
@@ -55,11 +59,16 @@ raw_of kind s =
       ]
     ]
 
--- An answer of 9 and 10, of n bytes.
+-- An answer of 9 to 17 where nothing is found.
 
-abbrev pub of_transformed : Option ℕ → ℕ → Said
-of_transformed (Some len) n = one 0 len n
-of_transformed None n = without 0
+abbrev pub of_error : ParseError → Said
+of_error NotFound = without 0
+of_error NoRoom = without 2
+
+-- what a transform of n bytes gives
+abbrev pub of_transformed : Option ℕ → ℕ → Result (ℕ × ℕ) ParseError
+of_transformed (Some len) n = Ok (len, n)
+of_transformed None n = Err NotFound
 
 -- What an answer of 9 to 12, and one of 13 to 17, says, with the scratch as the parser left it.
 
@@ -86,7 +95,7 @@ block_at kind s =
 abbrev pub transformed_of : Bool → List ℕ → BlockText
 transformed_of destination s = elim (transform_of destination s) [ whole l ↦ block l (length s) | refused l ↦ no_block ]
 
--- the text that 9 and 10 transform: 10 is the destination transform
+-- what 9 and 10 give: 10 is the destination transform
 abbrev pub transformed_at : ℕ → List ℕ → BlockText
 transformed_at kind s = transformed_of (eqb kind 10) s
 

@@ -5,8 +5,8 @@
 pub mod parser;
 
 ghost use Rattle.std.specs.Prelude.{◌≡◌};
-ghost use Rattle.rst_bytes.specs.Domain.{char_of, outside_of};
-ghost use Rattle.pieces.specs.Numbered.{taken, of_part, of_outside, of_character, of_word, of_set, of_tag, piece_of};
+ghost use Rattle.rst_bytes.specs.Domain.{char_of};
+ghost use Rattle.pieces.specs.Numbered.{taken, of_part, of_character, of_word, of_set, of_tag, piece_of};
 
 use rst_bytes::domain::{char_at, first_outside};
 use rst_bytes::escaped::escaped;
@@ -60,15 +60,6 @@ impl From<Option<(usize, u32)>> for Answer {
     }
 }
 
-fn first_bad(s: &[u8]) -> Answer
-    ensures { result ≡ of_outside (outside_of s.now) }
-{
-    match first_outside(s) {
-        Some(n) => taken(n),
-        None => Answer::default(),
-    }
-}
-
 // Whether the character at the front is a word character.
 fn word_at_front(s: &[u8]) -> Answer
     ensures { result ≡ of_word (char_of s.now) }
@@ -107,7 +98,7 @@ pub fn rst_piece(kind: usize, parameter: usize, s: &[u8]) -> Answer
     ensures { result ≡ piece_of kind parameter s.now }
 {
     match kind {
-        1 => first_bad(s),
+        1 => first_outside(s).into(),
         2 => char_at(s, parameter).into(),
         3 => word_at_front(s),
         4 => taken(word_run(s)),

@@ -5,7 +5,7 @@
 ghost use Rattle.std.specs.Prelude.{◌≡◌, ◌<◌, ◌≤◌, ℕ, List};
 ghost use Rattle.restructured_text.specs.Strings.{strings_of, lent};
 ghost use Rattle.restructured_text.specs.Block.{block_in, lent_block};
-ghost use Rattle.pieces.specs.Parsers.{without, one, of_spans, of_label, of_transformed, raw_of, block_said, strings_said, block_at, transformed_of, transformed_at, form_at};
+ghost use Rattle.pieces.specs.Parsers.{without, one, both, of_spans, of_label, of_error, of_transformed, raw_of, block_said, strings_said, block_at, transformed_of, transformed_at, form_at};
 
 use restructured_text::block::rst_explicit_markup_block;
 use restructured_text::inline::{rst_text_label2dest, rst_text2dest, rst_text2label};
@@ -54,19 +54,38 @@ fn one(first: usize, first_len: usize, consumed: usize) -> Parsed
     }
 }
 
+impl From<Spans> for Parsed {
+    ghost from_gives = { λ p r. r ≡ both p };
+
+    fn from((a, b, n): Spans) -> Parsed {
+        Parsed {
+            accepted: 1,
+            first: a.start,
+            first_len: a.len,
+            second: b.start,
+            second_len: b.len,
+            consumed: n,
+        }
+    }
+}
+
+impl From<ParseError> for Parsed {
+    ghost from_gives = { λ e r. r ≡ of_error e };
+
+    fn from(e: ParseError) -> Parsed {
+        match e {
+            ParseError::NotFound => without(0),
+            ParseError::NoRoom => without(2),
+        }
+    }
+}
+
 impl From<Option<Spans>> for Parsed {
     ghost from_gives = { λ p r. r ≡ of_spans p };
 
     fn from(p: Option<Spans>) -> Parsed {
         match p {
-            Some((a, b, n)) => Parsed {
-                accepted: 1,
-                first: a.start,
-                first_len: a.len,
-                second: b.start,
-                second_len: b.len,
-                consumed: n,
-            },
+            Some(found) => found.into(),
             None => without(0),
         }
     }
@@ -88,16 +107,8 @@ impl From<Result<Spans, ParseError>> for Parsed {
 
     fn from(p: Result<Spans, ParseError>) -> Parsed {
         match p {
-            Ok((a, b, n)) => Parsed {
-                accepted: 1,
-                first: a.start,
-                first_len: a.len,
-                second: b.start,
-                second_len: b.len,
-                consumed: n,
-            },
-            Err(ParseError::NotFound) => without(0),
-            Err(ParseError::NoRoom) => without(2),
+            Ok(found) => found.into(),
+            Err(e) => e.into(),
         }
     }
 }
@@ -108,32 +119,29 @@ impl From<Result<(usize, usize), ParseError>> for Parsed {
     fn from(p: Result<(usize, usize), ParseError>) -> Parsed {
         match p {
             Ok((len, n)) => one(0, len, n),
-            Err(ParseError::NotFound) => without(0),
-            Err(ParseError::NoRoom) => without(2),
+            Err(e) => e.into(),
         }
     }
 }
 
 // What a transform of n bytes gives.
-fn transformed(p: Option<usize>, n: usize) -> Parsed
+fn transformed(p: Option<usize>, n: usize) -> Result<(usize, usize), ParseError>
     ensures { result ≡ of_transformed p n }
 {
-    match p {
-        Some(len) => one(0, len, n),
-        None => without(0),
-    }
+    Ok((p.ok_or(ParseError::NotFound)?, n))
 }
 
-// A transform of a copy of the input. A bool, as in `transform_of`: a closure's clause would have to name what each transform leaves.
-fn transform(s: &[u8], scratch: &mut [u8], destination: bool) -> Parsed
-    ensures { block_said result scratch.new ≡ lent_block s.now scratch.old (transformed_of destination s.now) }
+// A transform of a copy of the input. A bool, as in `transform_of`: a closure's clause would have to name what each transform leaves. Not
+// `transform` of `scratch`, private below: a public one would be a promise for the tests alone.
+fn transform(s: &[u8], scratch: &mut [u8], destination: bool) -> Result<(usize, usize), ParseError>
+    ensures { block_in result scratch.new ≡ lent_block s.now scratch.old (transformed_of destination s.now) }
 {
     let n = s.len();
     if scratch.len() < n {
-        return without(2);
+        return Err(ParseError::NoRoom);
     }
     copy(s, scratch);
-    let d = &mut scratch[0..n];
+    let d = &mut scratch[..n];
     if destination {
         transformed(rst_escaped_link_destination_transform(d), n)
     } else {
@@ -167,8 +175,8 @@ pub fn rst_parser(kind: usize, s: &[u8], scratch: &mut [u8]) -> Parsed
 {
     match kind {
         0..9 => raw(kind, s),
-        9 => transform(s, scratch, false),
-        10 => transform(s, scratch, true),
+        9 => transform(s, scratch, false).into(),
+        10 => transform(s, scratch, true).into(),
         11 => rst_explicit_markup_block(s, b".. ", scratch).into(),
         12 => rst_explicit_markup_block(s, b"__ ", scratch).into(),
         13 => rst_text2dest(s, scratch).into(),

@@ -194,7 +194,7 @@ lines-in indent (b ∷ rest) zero h = go (further_of indent (b ∷ rest)) refl (
 pub lines-le : (indent s : List ℕ) → (lines_of indent 0 s).read ≤ length s
 lines-le indent s = let w = lines-in indent s 0 (omega arith) in omega arith
 
-lines-size : (indent s : List ℕ) → length (lines_of indent 0 s).text ≤ (lines_of indent 0 s).read
+pub lines-size : (indent s : List ℕ) → length (lines_of indent 0 s).text ≤ (lines_of indent 0 s).read
 lines-size indent s = (lines-in indent s 0 (omega arith)).size
 
 -- The block.

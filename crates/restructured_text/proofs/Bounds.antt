@@ -9,7 +9,6 @@ use Rattle.rst_bytes.proofs.TrimLaws.{trim-within}
 use Rattle.rst_bytes.proofs.Variants.{ok_or-some}
 use Rattle.rst_bytes.proofs.WordLaws.{word-within}
 use Rattle.restructured_text.specs.declared.Span.{Span}
-use Rattle.restructured_text.specs.Block.{start_of, cut_of, further_of}
 use Rattle.restructured_text.specs.Label.{form_of, parse_text2label_of}
 use Rattle.restructured_text.specs.Text2target.{inside_of, text2target_of}
 use Rattle.restructured_text.proofs.BlockLaws.{start-le, cut-le, further-pos, further-le}

@@ -1,4 +1,5 @@
--- `Cases` computes worked examples; the others are the laws that specs/Lib.antt lists, and what they need.
+-- `Cases` computes worked examples; `Named` holds laws that docs/ names and that no other proof uses now; the others are the laws that
+-- specs/Lib.antt lists, and what they need.
 pub mod TransformLaws
 pub mod PartLaws
 pub mod DelimitedLaws
@@ -11,4 +12,5 @@ pub mod JoinLaws
 pub mod BlockLaws
 pub mod TargetLaws
 pub mod CalmLaws
+pub mod Named
 mod Cases

@@ -1,6 +1,7 @@
 -- The laws of specs/Strings.antt: the strings that stand in a scratch, after each of its raw parts was transformed in its place; that
 -- only the bytes up to the parts' end matter; how long the strings are; and what is asked of a scratch.
 -- Assumes nothing.
+use Rattle.std.proofs.lemmas.Option.{none-some, same_Some}
 use Rattle.std.proofs.Common.{Option, Some, None}
 use Prim.Native.Nat.{ℕ, ◌+◌, ◌-◌, ◌<◌, ◌≤◌}
 use mathlib.Core.Path.{◌≡◌, sym, ap, ◌∙◌}
@@ -14,15 +15,15 @@ use borrow.Rule.Slice.PartMut.{mid_of, put_mid}
 use Rattle.restructured_text.specs.declared.Span.{Span}
 use Rattle.restructured_text.specs.Transform.{Given, whole, refused, text_of, transform_of, answer_of, bytes_of}
 use Rattle.restructured_text.specs.Strings.{Link, link, none, no_room, part, paired, linked, lent}
-use Rattle.restructured_text.proofs.TransformLaws.{text-text, text-wrong, answer-refused, text-le, transform-le}
+use Rattle.restructured_text.proofs.TransformLaws.{answer-refused, text-le, transform-le}
 use Rattle.restructured_text.proofs.PartLaws.{part-append, part-front, part_length, put-length, put-here, put-before, put-after}
 
 -- a whole text, by its answer and by what stands at the front of y
 given-whole : (g : Given) (y : List ℕ) (i : ℕ) → Some i ≡ answer_of g → take (length (bytes_of g)) y ≡ bytes_of g → (g ≡ whole (take i y)) × (i ≡ length (bytes_of g))
 given-whole (whole l) y i e f =
-    let z : i ≡ length l = text-text i (length l) e in
+    let z : i ≡ length l = same_Some i (length l) e in
     (ap whole (sym (rw (sym z) at f)), z)
-given-whole (refused l) y i e f = absurd (text-wrong i e)
+given-whole (refused l) y i e f = absurd (none-some i (sym e))
 
 -- two texts are both whole
 paired-whole : (g h : Given) (x y : List ℕ) (n : ℕ) → g ≡ whole x → h ≡ whole y → paired g h n ≡ link x y n

@@ -6,12 +6,11 @@ use Rattle.restructured_text.specs.declared.ParseError.{ParseError}
 use Rattle.restructured_text.specs.declared.ParseError.TheVariants.{NotFound, NoRoom}
 use Rattle.restructured_text.specs.Spans.{Spans}
 use Rattle.restructured_text.specs.declared.target.Definition.{Definition}
-use Rattle.restructured_text.specs.declared.target.Definition.TheVariants.{Alias, Destination}
 use Prim.Native.Nat.{ℕ, zero, suc, ◌+◌, ◌<◌, ◌≤◌}
 use native.Mathlib.Omega.{arith}
 use mathlib.Core.Path.{◌≡◌, refl, sym, ap, subst, subst⁻¹, ◌∙◌}
 use mathlib.Core.List.{List, [], ◌∷◌, ◌++◌}
-use mathlib.Core.Bool.{Bool, true, false, not, ◌&&◌, ◌||◌, false≢true, true≢false}
+use mathlib.Core.Bool.{Bool, true, false, not, ◌&&◌, false≢true, true≢false}
 use mathlib.Core.Logic.{◌⊎◌, inl, inr, ⊎_elim}
 use lib.ListN.{length, drop, take, set, length-take, length-drop}
 use lib.Seq.{take-length, drop-drop}
@@ -31,8 +30,7 @@ use Rattle.restructured_text.specs.Inner.{is_refused}
 use Rattle.restructured_text.specs.Transform.{Given, whole, refused, kept_of, text_of, destination_of, answer_of, bytes_of, over}
 use Rattle.restructured_text.specs.Strings.{Link, link, none, no_room, part, paired, linked, strings_of, Ends, lent}
 use Rattle.restructured_text.specs.Target.{plain_name_of, name_of, label_in, rest_of, is_named, excluded, behind_name, parse_label2target_of, named_in, named_of, anonymous_in, anonymous_of, anonymous_block_of, label2target_of, label2dest_of, label2label_of, starts_target}
-use Rattle.restructured_text.specs.Definition.{alias_in, destination_in, asked_of, told_as, raw_in, raw_of, raw_span, is_alias}
-use Rattle.rst_bytes.proofs.Lists.{part-from}
+use Rattle.restructured_text.specs.Definition.{Defines, told_as, raw_in, raw_of, raw_span, is_alias}
 use Rattle.rst_bytes.proofs.TestLaws.{lt-or-le, neither}
 use Rattle.rst_bytes.proofs.TagLaws.{starts-append}
 use Rattle.restructured_text.proofs.DelimitedLaws.{delimited-none, delimited-within}
@@ -40,8 +38,9 @@ use Rattle.restructured_text.proofs.LabelLaws.{Standing, simple-standing}
 use Rattle.restructured_text.proofs.TransformLaws.{answer-part, answer-refused, destination-dead, text-le, destination-le}
 use Rattle.restructured_text.proofs.PartLaws.{part_length, part-front, put-here, put-length, set_here, set_before}
 use Rattle.restructured_text.proofs.Text2targetLaws.{Apart}
-use Rattle.restructured_text.proofs.BlockLaws.{from, start_is, start-begins, lines_end, lines-further, block_none, block-no-line, block-taken, lent-short, lent-enough, block-consumed, block-scratch, block-lf}
+use Rattle.restructured_text.proofs.BlockLaws.{start_is, start-begins, lines_end, lines-further, block_none, block-no-line, block-taken, lent-short, lent-enough, block-consumed, block-scratch, block-lf}
 use Rattle.restructured_text.proofs.StringsLaws.{reach, link-room, linked-room}
+use Rattle.restructured_text.proofs.StringsLaws.{lent-enough as strings-enough}
 
 -- A name, by the code's tests: in backticks, else plain.
 abbrev quoted_in : List ℕ → Option ℕ
@@ -350,8 +349,7 @@ module _ (text : List ℕ) (n : ℕ) where
 
 -- What an answer y says of both, with the scratch d: F is what there is of an alias and of a destination.
 abbrev Both : (Bool → Link) → List ℕ → Result Definition ParseError → Type 0
-Both F d y =
-    (strings_of (alias_in y) d ≡ F true) × ((strings_of (destination_in y) d ≡ F false) × (Ends (alias_in y) × Ends (destination_in y)))
+Both F d y = Defines (F true) (F false) d y
 
 -- what was not found is told so
 pub told-err : (alias : Bool) (e : ParseError) → Err e ≡ told_as alias (Err e)
@@ -362,28 +360,28 @@ told-err false NoRoom = refl
 
 -- there is none of the other
 told-both : (F : Bool → Link) (d : List ℕ) (alias : Bool) (x : Result Spans ParseError) → strings_of x d ≡ F alias → (F alias ≡ no_room → ⊥) → F (not alias) ≡ none → Ends x → Both F d (told_as alias x)
-told-both F d true (Ok (a, b, n)) e r f w = (e, (sym f, (w, tt)))
-told-both F d false (Ok (a, b, n)) e r f w = (sym f, (e, (tt, w)))
-told-both F d true (Err NotFound) e r f w = (e, (sym f, (tt, tt)))
-told-both F d false (Err NotFound) e r f w = (sym f, (e, (tt, tt)))
+told-both F d true (Ok (a, b, n)) e r f w = record { alias = e; destination = sym f; ends = (w, tt) }
+told-both F d false (Ok (a, b, n)) e r f w = record { alias = sym f; destination = e; ends = (tt, w) }
+told-both F d true (Err NotFound) e r f w = record { alias = e; destination = sym f; ends = (tt, tt) }
+told-both F d false (Err NotFound) e r f w = record { alias = sym f; destination = e; ends = (tt, tt) }
 told-both F d true (Err NoRoom) e r f w = absurd (r (sym e))
 told-both F d false (Err NoRoom) e r f w = absurd (r (sym e))
 
 -- there is neither
-told-neither : (F : Bool → Link) (alias : Bool) → F alias ≡ none → F (not alias) ≡ none → Both F [] (Err NotFound)
-told-neither F true e f = (sym e, (sym f, (tt, tt)))
-told-neither F false e f = (sym f, (sym e, (tt, tt)))
+told-neither : (F : Bool → Link) (d : List ℕ) (alias : Bool) → F alias ≡ none → F (not alias) ≡ none → Both F d (Err NotFound)
+told-neither F d true e f = record { alias = sym e; destination = sym f; ends = (tt, tt) }
+told-neither F d false e f = record { alias = sym f; destination = sym e; ends = (tt, tt) }
 
 -- the same of G
 both-are : (F G : Bool → Link) (d : List ℕ) (y : Result Definition ParseError) → ((l : Bool) → F l ≡ G l) → Both F d y → Both G d y
-both-are F G d y e w = (w.0 ∙ e true, (w.1.0 ∙ e false, w.1.1))
+both-are F G d y e w = record { alias = w.alias ∙ e true; destination = w.destination ∙ e false; ends = w.ends }
 
 -- The text of a `.. ` block is the first len bytes of d; r is what the reader of v, which stands behind the name, gave.
 module _ (d : List ℕ) (len n : ℕ) (h : (len ≤ n) × (n ≤ length d)) where
   -- there is no name
-  pub nameless : name_of (take len d) ≡ None → Both (λ (l : Bool). named_of l (take len d) n) [] (Err NotFound)
-  nameless e =
-      told-neither (λ (l : Bool). named_of l (take len d) n) true (named_none true (take len d) n (parse-none true (take len d) e))
+  pub nameless : (d' : List ℕ) → name_of (take len d) ≡ None → Both (λ (l : Bool). named_of l (take len d) n) d' (Err NotFound)
+  nameless d' e =
+      told-neither (λ (l : Bool). named_of l (take len d) n) d' true (named_none true (take len d) n (parse-none true (take len d) e))
       (named_none false (take len d) n (parse-none false (take len d) e))
 
   module _ (name : Span) (k : ℕ) (e : name_of (take len d) ≡ Some (name, k)) (v : List ℕ) (iv : v ≡ drop k (take len d)) (r : Raw) (i : r ≡ raw_of v) (t : Span) (j : t ≡ raw_span r) where
@@ -403,12 +401,12 @@ module _ (d : List ℕ) (len n : ℕ) (h : (len ≤ n) × (n ≤ length d)) wher
     behind = ap (take t.len) (sym (drop-drop t.start k (take len d)) ∙ ap (drop t.start) (sym iv))
 
     -- the target is refused
-    pub named-dead : is_refused (kept_of (part target (take len d))) ≡ true → Both (λ (l : Bool). named_of l (take len d) n) [] (Err NotFound)
-    named-dead g =
+    pub named-dead : (d' : List ℕ) → is_refused (kept_of (part target (take len d))) ≡ true → Both (λ (l : Bool). named_of l (take len d) n) d' (Err NotFound)
+    named-dead d' g =
         let same : part (raw_span (raw_of v)) v ≡ part target (take len d) = ap (λ (y : Raw). part (raw_span y) v) (sym i) ∙ ap (λ (x : Span). part x v) (sym j) ∙ sym behind in
         let f = ap (λ (x : List ℕ). is_refused (kept_of x)) same ∙ g in
         let w = named-refused (take len d) n name k v e iv _ (destination-dead (part (raw_span (raw_of v)) v) f) in
-        told-neither (λ (l : Bool). named_of l (take len d) n) true (w true) (w false)
+        told-neither (λ (l : Bool). named_of l (take len d) n) d' true (w true) (w false)
 
     kept : excluded (is_alias r) (part target (take len d)) ≡ false
     kept = raw-kept v r i _ (behind ∙ ap (λ (x : Span). part x v) j)
@@ -436,16 +434,16 @@ module _ (d : List ℕ) (len n : ℕ) (h : (len < n) × (n ≤ length d)) (r : R
   whole-kept = raw-kept (take len d) r i _ (part-reach t (take len d) ∙ ap (λ (x : Span). part x (take len d)) j)
 
   -- it was refused
-  pub anonymous-refused : None ≡ answer_of (destination_of (mid_of t.start (reach t) d)) → Both (λ (l : Bool). anonymous_of l (take len d) n) [] (Err NotFound)
-  anonymous-refused g =
-      told-neither (λ (l : Bool). anonymous_of l (take len d) n) (is_alias r) (anonymous-wrong (is_alias r) d len n h t whole-rest whole-kept g)
+  pub anonymous-refused : (d' : List ℕ) → None ≡ answer_of (destination_of (mid_of t.start (reach t) d)) → Both (λ (l : Bool). anonymous_of l (take len d) n) d' (Err NotFound)
+  anonymous-refused d' g =
+      told-neither (λ (l : Bool). anonymous_of l (take len d) n) d' (is_alias r) (anonymous-wrong (is_alias r) d len n h t whole-rest whole-kept g)
       (anonymous-other (take len d) n r i)
 
   -- whitespace could not be dropped, so that it is
-  pub anonymous-dead : is_refused (kept_of (part t d)) ≡ true → Both (λ (l : Bool). anonymous_of l (take len d) n) [] (Err NotFound)
-  anonymous-dead g =
+  pub anonymous-dead : (d' : List ℕ) → is_refused (kept_of (part t d)) ≡ true → Both (λ (l : Bool). anonymous_of l (take len d) n) d' (Err NotFound)
+  anonymous-dead d' g =
       let f = ap (λ (x : List ℕ). is_refused (kept_of x)) (part-reach t d) ∙ g in
-      anonymous-refused (sym (ap answer_of (destination-dead (mid_of t.start (reach t) d) f)))
+      anonymous-refused d' (sym (ap answer_of (destination-dead (mid_of t.start (reach t) d) f)))
 
   -- it gave a string, which was told with the name behind the text
   pub anonymous-told :
@@ -531,10 +529,10 @@ module _ (s d d' : List ℕ) (x : Result (ℕ × ℕ) ParseError) (l : length d'
   pub target-named : (len n : ℕ) → x ≡ Ok (len, n) → (d'' : List ℕ) (y : Result Definition ParseError) → Both (λ (a : Bool). named_of a (take len d') n) d'' y → Both given d'' y
   target-named len n e d'' y w = both-are (λ (a : Bool). named_of a (take len d') n) given d'' y (first _ (ap (λ (b : Result (ℕ × ℕ) ParseError). block_in b d') e)) w
 
-  pub target-no-room : x ≡ Err NoRoom → Both given [] (Err NoRoom)
+  pub target-no-room : x ≡ Err NoRoom → Both given d' (Err NoRoom)
   target-no-room e =
       let w = first no-scratch (ap (λ (b : Result (ℕ × ℕ) ParseError). block_in b d') e) in
-      (w true, (w false, (tt, tt)))
+      record { alias = w true; destination = w false; ends = (tt, tt) }
 
   -- There was no block. What the second reader answered, and left in d''.
   module _ (e : x ≡ Err NotFound) (d'' : List ℕ) (y : Result (ℕ × ℕ) ParseError) (g : block_in y d'' ≡ lent_block s d' (block_of strokes s)) where
@@ -548,8 +546,8 @@ module _ (s d d' : List ℕ) (x : Result (ℕ × ℕ) ParseError) (l : length d'
     target-anonymous len n i d''' z w = both-are (λ (a : Bool). anonymous_of a (take len d'') n) given d''' z (second (Ok (len, n)) i) w
 
     pub target-neither : (d''' : List ℕ) (r : ParseError) → y ≡ Err r → Both given d''' (Err r)
-    target-neither d''' NotFound i = (second (Err NotFound) i true, (second (Err NotFound) i false, (tt, tt)))
-    target-neither d''' NoRoom i = (second (Err NoRoom) i true, (second (Err NoRoom) i false, (tt, tt)))
+    target-neither d''' NotFound i = record { alias = second (Err NotFound) i true; destination = second (Err NotFound) i false; ends = (tt, tt) }
+    target-neither d''' NoRoom i = record { alias = second (Err NoRoom) i true; destination = second (Err NoRoom) i false; ends = (tt, tt) }
 
 -- What a link consumes: at least one byte, at most `size`, and as many as its strings have together. There is no want of scratch.
 abbrev LinkIn : ℕ → Link → Type 0
@@ -768,3 +766,12 @@ module _ (s : List ℕ) (e : starts_target s ≡ false) where
   pub no-destination : label2dest_of s ≡ none
   unfolding label2dest_of
   no-destination = no_target false s e
+
+  -- with a scratch that is long enough
+  pub undefined : (d : List ℕ) → length s ≤ length d → Defines (lent s d (label2label_of s)) (lent s d (label2dest_of s)) d (Err NotFound)
+  undefined d h =
+      record {
+        alias = sym no-label ∙ strings-enough s d (label2label_of s) h;
+        destination = sym no-destination ∙ strings-enough s d (label2dest_of s) h;
+        ends = (tt, tt);
+      }

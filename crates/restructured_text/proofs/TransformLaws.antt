@@ -3,16 +3,17 @@
 -- that what is read is still the old text. What a transform gives is no longer than its text. Whether a destination is refused goes by its
 -- next bytes too, and bytes that are no backslash change nothing of it.
 -- Assumes nothing.
+use Rattle.std.proofs.lemmas.List.{take_more_set}
+use Rattle.std.proofs.lemmas.Option.{none-some, same_Some}
 use Rattle.std.proofs.Common.{Option, Some, None}
 use Prim.Native.Nat.{ℕ, zero, suc, ◌+◌, ◌-◌, ◌<◌, ◌≤◌}
-use mathlib.Core.Path.{◌≡◌, refl, sym, ap, subst, subst⁻¹, ◌∙◌}
+use mathlib.Core.Path.{◌≡◌, refl, sym, ap, subst⁻¹, ◌∙◌}
 use mathlib.Core.List.{List, [], ◌∷◌, ◌++◌, append_assoc, append-nil}
 use mathlib.Core.Bool.{Bool, true, false, ◌||◌, not, false≢true}
-use native.Mathlib.Numerals.{add-one}
 use native.Mathlib.Omega.{arith}
 use lib.Dec.{eqb}
-use lib.ListN.{length, take, drop, set, get_or, take-append-drop, length-set, length-append, length-drop}
-use lib.Seq.{take-suc-set, drop-set-lt, drop-drop, length-take-le, take-append_seam, drop-append_seam, drop-append-le}
+use lib.ListN.{length, take, drop, set, get_or, take-append-drop, length-set, length-append}
+use lib.Seq.{drop-set-lt, drop-drop, length-take-le, take-append_seam, drop-append_seam, drop-append-le}
 use borrow.Author.Tests.{eq-eqb, ne_eqb}
 use Rattle.rst_bytes.specs.Appending.{free}
 use Rattle.rst_bytes.specs.Escaped.{is_escapable, is_stop, taking}
@@ -22,7 +23,7 @@ use Rattle.rst_bytes.proofs.TestLaws.{picks_first, picks_second, by-test}
 use Rattle.rst_bytes.proofs.EscapedLaws.{refused-taken, taken_is, free-next, no_slash}
 use Rattle.rst_bytes.proofs.LineLaws.{bytes-within, bytes_count}
 use Rattle.restructured_text.specs.Inner.{is_bare, is_refused}
-use Rattle.restructured_text.specs.Transform.{Given, whole, refused, onto, reading, gives, itself, only, unescaped_of, is_destination_escapable, unblank, kept_of, text_of, destination_of, transform_of, answer_of, bytes_of, over}
+use Rattle.restructured_text.specs.Transform.{Given, whole, refused, onto, reading, gives, itself, only, unescaped_of, is_destination_escapable, unblank, kept_of, text_of, destination_of, transform_of, answer_of, bytes_of, over, Leaves}
 
 -- What is put in front.
 
@@ -130,19 +131,16 @@ module _ (s : List ℕ) (i : ℕ) where
         at_other is_destination_escapable (λ c. 0x5C ∷ c ∷ []) unblank s i h e
         ∙ ap (λ (l : List ℕ). onto l (kept_of (drop (i + 1) s))) (picks_second _ _ _ f)
 
--- A byte is written at n: what was written before it and it, and the rest as it was.
+-- A byte is written at n: the rest is as it was.
 module _ (d : List ℕ) (n b : ℕ) where
-  written : n < length d → take (n + 1) (set d n b) ≡ take n d ++ (b ∷ [])
-  written h = rw add-one (take-suc-set d n b h)
-
   kept : (d₀ : List ℕ) → drop n d ≡ drop n d₀ → drop (n + 1) (set d n b) ≡ drop (n + 1) d₀
   kept d₀ e = drop-set-lt (n + 1) d n b (omega arith) ∙ sym (drop-drop 1 n d) ∙ ap (drop 1) e ∙ drop-drop 1 n d₀
 
 -- two bytes are written
 written-two : (d : List ℕ) (n a b : ℕ) → n + 1 < length d → take (n + 1 + 1) (set (set d n a) (n + 1) b) ≡ take n d ++ (a ∷ b ∷ [])
 written-two d n a b h =
-    written (set d n a) (n + 1) b (omega (arith, length-set d n a))
-    ∙ ap (λ (l : List ℕ). l ++ (b ∷ [])) (written d n a (omega arith))
+    take_more_set (set d n a) (n + 1) b (omega (arith, length-set d n a))
+    ∙ ap (λ (l : List ℕ). l ++ (b ∷ [])) (take_more_set d n a (omega arith))
     ∙ append_assoc (take n d) (a ∷ []) (b ∷ [])
 
 -- Where the loop stands: i bytes are read and n written, from n on the text is as it was, and what was written stands before what
@@ -213,7 +211,7 @@ module _ {F : List ℕ → Given} {d₀ d : List ℕ} {i n : ℕ} (st : At F d�
         rest = kept d n b d₀ st.rest;
         said =
             now-said k (b ∷ []) e
-            ∙ ap (λ (l : List ℕ). onto l (F (drop (i + k) d₀))) (sym (written d n b (omega arith)));
+            ∙ ap (λ (l : List ℕ). onto l (F (drop (i + k) d₀))) (sym (take_more_set d n b (omega arith)));
       }
 
   -- two bytes are read and two are written
@@ -239,12 +237,20 @@ module _ {F : List ℕ → Given} {d₀ d : List ℕ} {i n : ℕ} (st : At F d�
   all_said g e = st.said ∙ ap (λ (x : List ℕ). onto (take n d) (F x)) (sym (unread i st.room)) ∙ ap (onto (take n d)) e
 
   -- the rest is refused
-  pub ends-bad : F (drop i d) ≡ refused [] → (None ≡ answer_of (F d₀)) × (d ≡ over (bytes_of (F d₀)) d₀)
-  ends-bad e = simp (all_said (refused []) e, append-nil) (refl, buffer (omega arith))
+  pub ends-bad : F (drop i d) ≡ refused [] → Leaves (F d₀) d₀ d None
+  ends-bad e =
+      simp (all_said (refused []) e, append-nil) (record {
+        answer = refl;
+        bytes = buffer (omega arith);
+      })
 
   -- nothing is left
-  pub ends-well : F (drop i d) ≡ whole [] → (Some n ≡ answer_of (F d₀)) × (d ≡ over (bytes_of (F d₀)) d₀)
-  ends-well e = simp (all_said (whole []) e, append-nil) (ap Some (sym (length-take-le n d (omega arith))), buffer (omega arith))
+  pub ends-well : F (drop i d) ≡ whole [] → Leaves (F d₀) d₀ d (Some n)
+  ends-well e =
+      simp (all_said (whole []) e, append-nil) (record {
+        answer = ap Some (sym (length-take-le n d (omega arith)));
+        bytes = buffer (omega arith);
+      })
 
 -- What a transform gives is no longer than its text: for each byte that it reads it gives at most one.
 module _ (ok : ℕ → Bool) (pair plain : ℕ → List ℕ) (one : (b : ℕ) → length (plain b) ≤ 1) (two : (c : ℕ) → length (pair c) ≤ 2) where
@@ -320,42 +326,38 @@ module _ (s : List ℕ) where
   unfolding destination_of
   destination-refused l e = ap (λ (g : Given). elim g [ whole x ↦ unescaped_of true x | refused x ↦ refused x ]) e
 
--- an answer tells how long a text is
-pub text-text : (m n : ℕ) → Some m ≡ Some n → m ≡ n
-text-text m n e = cc
-
--- and is that of a whole text, or not
-pub text-wrong : (n : ℕ) → Some n ≡ None → ⊥
-text-wrong n e = let z : ◌≡◌ {A = ℕ} 0 1 = cc in omega arith
-
 -- what is answered, and that the part so long is what was written
 pub answer-part : (g : Given) (d₀ d : List ℕ) (n : ℕ) → Some n ≡ answer_of g → d ≡ over (bytes_of g) d₀ → (g ≡ whole (take n d)) × (n ≤ length d)
 answer-part (whole l) d₀ d n e f =
-    let z : n ≡ length l = text-text n (length l) e in
+    let z : n ≡ length l = same_Some n (length l) e in
     rw (f, z) (ap whole (sym (over-front l d₀)), omega (arith, length-append l (drop (length l) d₀)))
-answer-part (refused l) d₀ d n e f = absurd (text-wrong n e)
+answer-part (refused l) d₀ d n e f = absurd (none-some n (sym e))
 
 -- or what is refused
 pub answer-refused : (g : Given) → None ≡ answer_of g → g ≡ refused (bytes_of g)
-answer-refused (whole l) e = absurd (text-wrong (length l) (sym e))
+answer-refused (whole l) e = absurd (none-some (length l) e)
 answer-refused (refused l) e = refl
 
 -- the part is unescaped
 pub destination-part :
-    (s d x : List ℕ) (n : ℕ) (r : Option ℕ) → Some n ≡ answer_of (kept_of s) → d ≡ over (bytes_of (kept_of s)) s
-    → r ≡ answer_of (unescaped_of true (take n d)) → x ≡ over (bytes_of (unescaped_of true (take n d))) (take n d)
-    → (r ≡ answer_of (destination_of s)) × (x ++ drop n d ≡ over (bytes_of (destination_of s)) (over (bytes_of (kept_of s)) s))
-destination-part s d x n r e f a b =
-    let w : destination_of s ≡ unescaped_of true (take n d) = destination-whole s (take n d) (answer-part (kept_of s) s d n e f).0 in
-    rw (w, ← f) (a, rw b (over-part (bytes_of (unescaped_of true (take n d))) d n (unescaped-le true (take n d))))
+    (s d x : List ℕ) (n : ℕ) (r : Option ℕ) → Leaves (kept_of s) s d (Some n) → Leaves (unescaped_of true (take n d)) (take n d) x r
+    → Leaves (destination_of s) (over (bytes_of (kept_of s)) s) (x ++ drop n d) r
+destination-part s d x n r kept l =
+    let w : destination_of s ≡ unescaped_of true (take n d) = destination-whole s (take n d) (answer-part (kept_of s) s d n kept.answer kept.bytes).0 in
+    rw (w, ← kept.bytes) (record {
+      answer = l.answer;
+      bytes = rw l.bytes (over-part (bytes_of (unescaped_of true (take n d))) d n (unescaped-le true (take n d)));
+    })
 
 -- or whitespace could not be dropped
 pub destination-wrong :
-    (s d : List ℕ) → None ≡ answer_of (kept_of s) → d ≡ over (bytes_of (kept_of s)) s → (None ≡ answer_of (destination_of s))
-    × (d ≡ over (bytes_of (destination_of s)) (over (bytes_of (kept_of s)) s))
-destination-wrong s d e f =
-    let w : destination_of s ≡ refused (bytes_of (kept_of s)) = destination-refused s _ (answer-refused (kept_of s) e) in
-    rw w (refl, f ∙ sym (over-again (bytes_of (kept_of s)) s))
+    (s d : List ℕ) → Leaves (kept_of s) s d None → Leaves (destination_of s) (over (bytes_of (kept_of s)) s) d None
+destination-wrong s d kept =
+    let w : destination_of s ≡ refused (bytes_of (kept_of s)) = destination-refused s _ (answer-refused (kept_of s) kept.answer) in
+    rw w (record {
+      answer = refl;
+      bytes = kept.bytes ∙ sym (over-again (bytes_of (kept_of s)) s);
+    })
 
 -- A byte that is neither a backslash nor whitespace, by both readings.
 bare_apart : (b : ℕ) → is_bare b ≡ true → (eqb b 0x5C ≡ false) × (is_multispace b ≡ false)

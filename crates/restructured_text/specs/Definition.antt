@@ -9,7 +9,8 @@ use Rattle.restructured_text.specs.declared.Span.{Span}
 use Rattle.restructured_text.specs.declared.label.Label.{Label}
 use Rattle.restructured_text.specs.declared.target.Definition.{Definition}
 use Rattle.restructured_text.specs.declared.target.Definition.TheVariants.{Alias, Destination}
-use Rattle.std.specs.Prelude.{ℕ, List, Bool, true, false, length}
+use Rattle.std.specs.Prelude.{ℕ, List, Bool, true, false, length, ◌≡◌}
+use Rattle.restructured_text.specs.Strings.{Link, strings_of, Ends}
 use Rattle.restructured_text.specs.declared.target.Raw.{Raw}
 use Rattle.restructured_text.specs.declared.target.Raw.TheVariants as raw
 use Rattle.restructured_text.specs.Label.{simple_label_of}
@@ -26,6 +27,12 @@ destination_in (Ok (Alias a b n)) = Err NotFound
 destination_in (Ok (Destination a b n)) = Ok (a, b, n)
 destination_in (Err NotFound) = Err NotFound
 destination_in (Err NoRoom) = Err NoRoom
+
+-- a is what there is of an alias, and d what there is of a destination, in an answer with the scratch as it left it
+pub record Defines (a d : Link) (scratch : List ℕ) (r : Result Definition ParseError) : Type 0 where
+  pub alias : strings_of (alias_in r) scratch ≡ a
+  pub destination : strings_of (destination_in r) scratch ≡ d
+  pub ends : Ends (alias_in r) × Ends (destination_in r)
 
 -- for private contracts: the answer when one of them was looked for, ..
 abbrev pub asked_of : Bool → Result Definition ParseError → Result Spans ParseError

@@ -3,7 +3,7 @@
 -- backslash; then unescape, escaped space giving a space."
 -- Assumes nothing.
 use Rattle.std.specs.Prelude.{Option, Some, None}
-use Rattle.std.specs.Prelude.{ℕ, List, [], ◌∷◌, ◌++◌, Bool, true, false, eqb, length, drop}
+use Rattle.std.specs.Prelude.{ℕ, List, [], ◌∷◌, ◌++◌, Bool, true, false, eqb, length, drop, ◌≡◌}
 use Rattle.rst_bytes.specs.Tests.{one_of}
 use Rattle.rst_bytes.specs.Escaped.{is_escapable}
 use Rattle.rst_bytes.specs.Line.{is_multispace}
@@ -84,3 +84,8 @@ bytes_of (refused l) = l
 -- d with l written over its front
 abbrev pub over : List ℕ → List ℕ → List ℕ
 over l d = l ++ drop (length l) d
+
+-- a transform that gives g answers r, and leaves d' where d was lent
+pub record Leaves (g : Given) (d d' : List ℕ) (r : Option ℕ) : Type 0 where
+  pub answer : r ≡ answer_of g
+  pub bytes : d' ≡ over (bytes_of g) d

@@ -2,7 +2,7 @@
 //
 // The steps stand in the order of the specification: the start with the blank after it, the first line, the relative indent of
 // later lines, the end.
-ghost use Rattle.std.specs.Prelude.{◌≡◌, ◌++◌, ◌+◌, ◌≤◌, length, take};
+ghost use Rattle.std.specs.Prelude.{◌≡◌, ◌≤◌, length, take};
 ghost use Rattle.restructured_text.specs.Block.{start_of, cut_of, further_of, lines_of, block_of, block_in, lent_block};
 
 use crate::ParseError;
@@ -10,11 +10,11 @@ use rst_bytes::copy::copy;
 use rst_bytes::line::{line_ending, not_line_ending, space0};
 use rst_bytes::tag::tag;
 
-// How much was joined: the length of the text so far, and how many bytes were read.
+// How much was joined: how many bytes were written, and how many were read.
 #[derive(Clone, Copy)]
-pub struct Lines {
-    pub len: usize,
-    pub read: usize,
+struct Lines {
+    len: usize,
+    read: usize,
 }
 
 // The start: how many bytes the indent and the header after it take.
@@ -55,16 +55,17 @@ fn further_line(s: &[u8], indent: &[u8]) -> Option<(usize, usize)>
     Some((a, n))
 }
 
-// Joins the further lines to the m bytes at the front of d.
+// Joins the further lines, at the front of d.
 #[tactic(auto, using(crate::proofs::Bounds::bounds))]
-fn join_lines(s: &[u8], indent: &[u8], d: &mut [u8], m: usize) -> Lines
-    requires { m + length s.now ≤ length d.old }
-    ensures len { result.len ≡ m + length (lines_of indent.now 0 s.now).text }
+fn join_lines(s: &[u8], indent: &[u8], d: &mut [u8]) -> Lines
+    requires { length s.now ≤ length d.old }
+    ensures len { result.len ≡ length (lines_of indent.now 0 s.now).text }
     ensures read { result.read ≡ (lines_of indent.now 0 s.now).read }
-    ensures text { take result.len d.new ≡ take m d.old ++ (lines_of indent.now 0 s.now).text }
+    ensures text { take result.len d.new ≡ (lines_of indent.now 0 s.now).text }
 {
     let mut rest = s;
-    let mut n = m;
+    let mut n = 0;
+    // No `for`: a further line says where the next one may stand.
     while let Some((a, len)) = further_line(rest, indent) {
         d[n] = b' ';
         n += 1;
@@ -95,6 +96,6 @@ pub fn rst_explicit_markup_block(
     let n = not_line_ending(t).ok_or(ParseError::NotFound)?;
     copy(&t[..n], scratch);
     let i = space0(s);
-    let lines = join_lines(&t[n..], &s[..i], scratch, n);
-    Ok((lines.len, a + n + lines.read))
+    let lines = join_lines(&t[n..], &s[..i], &mut scratch[n..]);
+    Ok((n + lines.len, a + n + lines.read))
 }

@@ -1,6 +1,6 @@
 // A part between two tags, and what a text ends with.
 ghost use Rattle.std.specs.Prelude.{◌≡◌};
-ghost use Rattle.restructured_text.specs.Delimited.{delimited_of, ends_with, backticked_of};
+ghost use Rattle.restructured_text.specs.Delimited.{delimited_of, ends_with, closing, backticked_of};
 
 use rst_bytes::escaped::escaped;
 use rst_bytes::tag::tag;
@@ -19,20 +19,22 @@ pub fn delimited(s: &[u8], left: &[u8], p: u8, q: u8, right: &[u8]) -> Option<us
 }
 
 // Whether the last bytes of s are those of t.
-#[tactic(auto, using(crate::proofs::Bounds::bounds), unfolding(crate::specs::Delimited::ends_with))]
 pub fn ends_with(s: &[u8], t: &[u8]) -> bool
     ensures { result ≡ ends_with t.now s.now }
 {
-    s.len() >= t.len() && tag(&s[s.len() - t.len()..], t)
+    s.ends_with(t)
 }
 
-// How many bytes stand between a backtick at the front and a closing "`_", for anonymous "`__".
+// What closes a backticked run: "`_", for anonymous "`__".
+pub fn closing(anonym: bool) -> &'static [u8]
+    ensures { result.now ≡ closing anonym }
+{
+    if anonym { b"`__" } else { b"`_" }
+}
+
+// How many bytes stand between a backtick at the front and what closes it.
 pub fn backticked(s: &[u8], anonym: bool) -> Option<usize>
     ensures { result ≡ backticked_of anonym s.now }
 {
-    if anonym {
-        delimited(s, b"`", b'`', b'`', b"`__")
-    } else {
-        delimited(s, b"`", b'`', b'`', b"`_")
-    }
+    delimited(s, b"`", b'`', b'`', closing(anonym))
 }

@@ -41,7 +41,8 @@ pub fn rst_text_label2dest(s: &[u8], scratch: &mut [u8]) -> Result<Spans, ParseE
     embedded(s, scratch, false)
 }
 
-// A reference: its text and its label.
+// A reference: its text and its label. Not one function with `embedded`: a label may be the text itself, a destination never, and one
+// function would have to ask for that.
 #[tactic(auto, using(crate::proofs::Bounds::bounds), unfolding(crate::specs::Inline::text2label_of))]
 pub fn rst_text2label(s: &[u8], scratch: &mut [u8]) -> Result<Spans, ParseError>
     ensures strings { strings_of result scratch.new ≡ lent s.now scratch.old (text2label_of s.now) }

@@ -8,7 +8,7 @@ use crate::{Span, Spans};
 use rst_bytes::tag::tag;
 use rst_bytes::word::word_run;
 
-// Where a simple label stands.
+// Where a simple label stands: a type of its own, as in the Rust, so that no other span passes for a label.
 #[derive(Clone, Copy)]
 pub struct Label {
     pub start: usize,

@@ -35,6 +35,7 @@ impl Span {
 }
 
 // Two spans, and how many bytes were consumed: of a parser's input, where its two raw parts stand; of its scratch, where its two strings do.
+// That strings end within these bytes is a clause (`Ends`) and no ghost field: each place that makes spans, of raw parts too, would have to show it.
 pub type Spans = (Span, Span, usize);
 
 // Why a parser that is lent a scratch gives nothing: there is no such form; or the scratch is shorter than the input.

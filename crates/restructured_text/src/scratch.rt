@@ -6,7 +6,7 @@ ghost use Rattle.restructured_text.specs.Strings.{linked, strings_of, Ends};
 use crate::transform::{rst_escaped_link_destination_transform, rst_escaped_link_text_transform};
 use crate::{ParseError, Span, Spans};
 
-// The text transform or the destination transform.
+// The text transform or the destination transform. A bool, as in `transform_of`: a closure's clause would have to name what each leaves.
 fn transform(d: &mut [u8], destination: bool) -> Option<usize>
     ensures answer { result ≡ answer_of (transform_of destination d.old) }
     ensures bytes { take (length (bytes_of (transform_of destination d.old))) d.new ≡ bytes_of (transform_of destination d.old) }
@@ -18,7 +18,8 @@ fn transform(d: &mut [u8], destination: bool) -> Option<usize>
     }
 }
 
-// The two transforms of the raw parts that stand in d, the first before the second: each in its place.
+// The two transforms of the raw parts that stand in d, the first before the second: each in its place. The parts one by one: the
+// contract speaks of each.
 pub fn transformed(
     d: &mut [u8],
     a: Span,

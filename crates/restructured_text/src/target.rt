@@ -15,7 +15,7 @@ ghost use Rattle.restructured_text.specs.Target.{
   label2label_of,
   starts_target,
 };
-ghost use Rattle.restructured_text.specs.Definition.{alias_in, destination_in, asked_of, told_as, raw_of, raw_span, is_alias};
+ghost use Rattle.restructured_text.specs.Definition.{Defines, asked_of, told_as, raw_of, raw_span, is_alias};
 
 use crate::block::rst_explicit_markup_block;
 use crate::delimited::delimited;
@@ -71,7 +71,7 @@ impl Raw {
 }
 
 // What a target block defines: its name and its target, where they stand in the scratch, and how many bytes of the input were
-// consumed.
+// consumed; one by one, as in the cases of `parse::Link`, which it becomes.
 #[derive(Clone, Copy)]
 pub enum Definition {
     Alias(Span, Span, usize),
@@ -153,9 +153,7 @@ fn is_wrong(d: &[u8]) -> bool
 #[tactic(auto, using(crate::proofs::Bounds::bounds))]
 fn named_target(d: &mut [u8], len: usize, n: usize) -> Result<Definition, ParseError>
     requires { (len ≤ n) × (n ≤ length d.old) }
-    ensures alias { strings_of (alias_in result) d.new ≡ named_of true (take len d.old) n }
-    ensures destination { strings_of (destination_in result) d.new ≡ named_of false (take len d.old) n }
-    ensures ends { Ends (alias_in result) × Ends (destination_in result) }
+    ensures { Defines (named_of true (take len d.old) n) (named_of false (take len d.old) n) d.new result }
 {
     let text = &d[..len];
     let (name, k) = target_name(text).ok_or(ParseError::NotFound)?;
@@ -176,9 +174,7 @@ fn named_target(d: &mut [u8], len: usize, n: usize) -> Result<Definition, ParseE
 #[tactic(auto, using(crate::proofs::Bounds::bounds))]
 fn anonymous_target(d: &mut [u8], len: usize, n: usize) -> Result<Definition, ParseError>
     requires { (len < n) × (n ≤ length d.old) }
-    ensures alias { strings_of (alias_in result) d.new ≡ anonymous_of true (take len d.old) n }
-    ensures destination { strings_of (destination_in result) d.new ≡ anonymous_of false (take len d.old) n }
-    ensures ends { Ends (alias_in result) × Ends (destination_in result) }
+    ensures { Defines (anonymous_of true (take len d.old) n) (anonymous_of false (take len d.old) n) d.new result }
 {
     let raw = Raw::of(&d[..len]);
     let span = raw.span();
@@ -204,9 +200,7 @@ pub fn starts_target(s: &[u8]) -> bool
 
 // What a block defines, whatever it starts with.
 fn block_target(s: &[u8], scratch: &mut [u8]) -> Result<Definition, ParseError>
-    ensures alias { strings_of (alias_in result) scratch.new ≡ lent s.now scratch.old (label2target_of true s.now) }
-    ensures destination { strings_of (destination_in result) scratch.new ≡ lent s.now scratch.old (label2target_of false s.now) }
-    ensures ends { Ends (alias_in result) × Ends (destination_in result) }
+    ensures { Defines (lent s.now scratch.old (label2target_of true s.now)) (lent s.now scratch.old (label2target_of false s.now)) scratch.new result }
 {
     match rst_explicit_markup_block(s, b".. ", scratch) {
         Ok((len, n)) => named_target(scratch, len, n),
@@ -218,12 +212,10 @@ fn block_target(s: &[u8], scratch: &mut [u8]) -> Result<Definition, ParseError>
     }
 }
 
-// A target block with an alias or with a destination, which is read once. A block that is none is not read.
+// A target block with an alias or with a destination, which is read once. Nothing is read where no target may start.
 #[tactic(auto, unfolding(crate::specs::Target::label2dest_of, crate::specs::Target::label2label_of))]
 pub fn rst_target(s: &[u8], scratch: &mut [u8]) -> Result<Definition, ParseError>
-    ensures alias { strings_of (alias_in result) scratch.new ≡ lent s.now scratch.old (label2label_of s.now) }
-    ensures destination { strings_of (destination_in result) scratch.new ≡ lent s.now scratch.old (label2dest_of s.now) }
-    ensures ends { Ends (alias_in result) × Ends (destination_in result) }
+    ensures { Defines (lent s.now scratch.old (label2label_of s.now)) (lent s.now scratch.old (label2dest_of s.now)) scratch.new result }
 {
     if starts_target(s) {
         return block_target(s, scratch);

@@ -1,9 +1,8 @@
 // `rst_parse_text2target`: a text with a label or a destination in angle brackets, all in backticks.
-ghost use Rattle.std.specs.Prelude.{◌≡◌, length};
-ghost use Rattle.restructured_text.specs.Delimited.{closing};
+ghost use Rattle.std.specs.Prelude.{◌≡◌};
 ghost use Rattle.restructured_text.specs.Text2target.{target_of, inside_of, text2target_of};
 
-use crate::delimited::{backticked, delimited, ends_with};
+use crate::delimited::{backticked, closing, delimited, ends_with};
 use crate::{Span, Spans};
 use rst_bytes::escaped::escaped;
 use rst_bytes::tag::tag;
@@ -45,13 +44,6 @@ fn inside(s: &[u8], label: bool) -> Option<Spans>
     ))
 }
 
-// How many bytes close the backticks.
-fn closing_len(anonym: bool) -> usize
-    ensures { result ≡ length (closing anonym) }
-{
-    if anonym { 3 } else { 2 }
-}
-
 // The anonymous or the named form, with a label or a destination.
 #[tactic(auto, using(crate::proofs::Bounds::bounds), unfolding(crate::specs::Text2target::text2target_of))]
 pub fn rst_parse_text2target(s: &[u8], anonym: bool, label: bool) -> Option<Spans>
@@ -59,7 +51,7 @@ pub fn rst_parse_text2target(s: &[u8], anonym: bool, label: bool) -> Option<Span
 {
     let n = backticked(s, anonym)?;
     let e = n + 1;
-    let end = e + closing_len(anonym);
+    let end = e + closing(anonym).len();
     if tag(&s[end..], b"_") {
         return None;
     }

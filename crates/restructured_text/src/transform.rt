@@ -9,9 +9,9 @@ ghost use Rattle.restructured_text.specs.Transform.{
   kept_of,
   text_of,
   destination_of,
-  answer_of,
   bytes_of,
   over,
+  Leaves,
 };
 
 use rst_bytes::escaped::is_escapable;
@@ -38,11 +38,7 @@ fn gives_itself(keep: bool, b: u8) -> bool
 fn is_bare(b: u8) -> bool
     ensures { result ≡ is_bare b }
 {
-    if b > b' ' {
-        b != b'\\'
-    } else {
-        !is_multispace(b)
-    }
+    b != b'\\' && !is_multispace(b)
 }
 
 // How many such bytes stand at the front.
@@ -54,8 +50,7 @@ fn bare(d: &[u8]) -> usize
 
 // An escaped character stands for itself; an escaped space for a space if `keep`, else for nothing.
 fn unescape(d: &mut [u8], keep: bool) -> Option<usize>
-    ensures answer { result ≡ answer_of (unescaped_of keep d.old) }
-    ensures bytes { d.new ≡ over (bytes_of (unescaped_of keep d.old)) d.old }
+    ensures { Leaves (unescaped_of keep d.old) d.old d.new result }
 {
     let front = bare(d);
     let mut i = front;
@@ -82,10 +77,10 @@ fn unescape(d: &mut [u8], keep: bool) -> Option<usize>
     Some(n)
 }
 
-// Drops unescaped space, tab, CR and LF, and keeps escapes as they are.
+// Drops unescaped space, tab, CR and LF, and keeps escapes as they are. Not one function with `unescape`: what may be escaped, what an
+// escape leaves (one byte or none there, both here) and what a plain byte leaves would be three closures with their clauses.
 fn remove_whitespace(d: &mut [u8]) -> Option<usize>
-    ensures answer { result ≡ answer_of (kept_of d.old) }
-    ensures bytes { d.new ≡ over (bytes_of (kept_of d.old)) d.old }
+    ensures { Leaves (kept_of d.old) d.old d.new result }
 {
     let front = bare(d);
     let mut i = front;
@@ -116,16 +111,14 @@ fn remove_whitespace(d: &mut [u8]) -> Option<usize>
 // The text transform.
 #[tactic(auto, unfolding(crate::specs::Transform::text_of))]
 pub fn rst_escaped_link_text_transform(d: &mut [u8]) -> Option<usize>
-    ensures answer { result ≡ answer_of (text_of d.old) }
-    ensures bytes { d.new ≡ over (bytes_of (text_of d.old)) d.old }
+    ensures { Leaves (text_of d.old) d.old d.new result }
 {
     unescape(d, false)
 }
 
 // The destination transform.
 pub fn rst_escaped_link_destination_transform(d: &mut [u8]) -> Option<usize>
-    ensures answer { result ≡ answer_of (destination_of d.old) }
-    ensures bytes { d.new ≡ over (bytes_of (destination_of d.old)) (over (bytes_of (kept_of d.old)) d.old) }
+    ensures { Leaves (destination_of d.old) (over (bytes_of (kept_of d.old)) d.old) d.new result }
 {
     let n = remove_whitespace(d)?;
     unescape(&mut d[..n], true)

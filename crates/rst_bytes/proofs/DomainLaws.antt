@@ -2,7 +2,7 @@
 -- what a byte below 80 behind the text changes. Up to `char-low` they go by the two kinds of characters; the laws of `run` need only these.
 -- Assumes nothing.
 use Rattle.std.proofs.Common.{Option, Some, None}
-use Prim.Native.Nat.{ℕ, zero, suc, ◌+◌, ◌-◌, ◌<◌, ◌≤◌, max}
+use Prim.Native.Nat.{ℕ, zero, suc, ◌+◌, ◌-◌, ◌<◌, ◌≤◌}
 use native.Mathlib.Nat.{add-zero, add_assoc}
 use native.Mathlib.Omega.{arith}
 use mathlib.Core.Path.{◌≡◌, refl, sym, ap, ◌∙◌}
@@ -13,8 +13,7 @@ use lib.Dec.{ltb, leb, eqb}
 use lib.ListN.{length, get_or, drop, length-drop, length-append}
 use lib.Seq.{get_or-drop, drop-drop}
 use borrow.Author.Tests.{ltb-true, leb-true, eqb-true, lt-ltb, le-ltb, lt-leb, ne_eqb}
-use Rattle.std.specs.List.{fold}
-use Rattle.rst_bytes.proofs.Variants.{some-pair}
+use Rattle.std.proofs.lemmas.Option.{none-some, some_pair_parts}
 use Rattle.rst_bytes.specs.Tests.{between}
 use Rattle.rst_bytes.specs.Domain.{is_pair, point_of, pair_of, char_of, run, any, outside_of}
 use Rattle.rst_bytes.proofs.Lists.{drop-next, drop-end}
@@ -23,7 +22,6 @@ use Rattle.rst_bytes.proofs.TestLaws.{or_cases, lt-or-le}
 -- the bytes of a pair
 pub record Bounds (b c : ℕ) : Type 0 where
   pub first-low : 0xC2 ≤ b
-  pub first-high : b ≤ 0xC9
   pub second-low : 0x80 ≤ c
   pub second-high : c ≤ 0xBF
 
@@ -37,7 +35,6 @@ pair-bounds b c e =
     let z = (and-eq-true_iff (leb 0x80 c) (leb c 0xBF)).0 x.1 in
     record {
       first-low = leb-true _ _ y.0;
-      first-high = omega (arith, leb-true b 0xC8 y.1);
       second-low = leb-true _ _ z.0;
       second-high = leb-true _ _ z.1;
     })
@@ -47,7 +44,6 @@ pair-bounds b c e =
     let z = (and-eq-true_iff (leb 0x80 c) (leb c 0x8F)).0 x.1 in
     record {
       first-low = omega arith;
-      first-high = omega arith;
       second-low = leb-true _ _ z.0;
       second-high = omega (arith, leb-true c 0x8F z.1);
     })
@@ -76,29 +72,26 @@ pub record Two (s : List ℕ) (n p : ℕ) : Type 0 where
   pub pair : is_pair (get_or s 0 0) (get_or s 1 0) ≡ true
   pub some : 1 < length s
 
-no-starts : {n p : ℕ} → ◌≡◌ {A = Option (ℕ × ℕ)} None (Some (n, p)) → ⊥
-no-starts e = let z : ◌≡◌ {A = ℕ} 0 1 = cc in omega arith
-
 -- a character starts, or none does
 pub clash : (s : List ℕ) (n p : ℕ) → char_of s ≡ None → char_of s ≡ Some (n, p) → ⊥
-clash s n p d e = no-starts (sym d ∙ e)
+clash s n p d e = none-some (n, p) (sym d ∙ e)
 
 pub char-cases : (s : List ℕ) (n p : ℕ) → char_of s ≡ Some (n, p) → One s n p ⊎ Two s n p
 unfolding char_of
-char-cases [] n p e = absurd (no-starts e)
+char-cases [] n p e = absurd (none-some (n, p) e)
 char-cases (b ∷ s) n p e = first (ltb b 0x80) refl
   where
     second : (l : List ℕ) (x : Bool) → is_pair b (get_or l 0 0) ≡ x → pair_of b l ≡ Some (n, p) → Two (b ∷ l) n p
-    second [] x q u = absurd (no-starts u)
-    second (c ∷ l) false q u = absurd (no-starts (simp (q, pair_of) at u))
+    second [] x q u = absurd (none-some (n, p) u)
+    second (c ∷ l) false q u = absurd (none-some (n, p) (simp (q, pair_of) at u))
     second (c ∷ l) true q u =
         let v : ◌≡◌ {A = Option (ℕ × ℕ)} (Some (2, (point_of b c))) (Some (n, p)) = simp (q, pair_of) at u in
-        let w = some-pair v in record { len = sym w.0; point = sym w.1; pair = q; some = omega arith }
+        let w = some_pair_parts 2 n (point_of b c) p v in record { len = sym w.0; point = sym w.1; pair = q; some = omega arith }
 
     first : (x : Bool) → ltb b 0x80 ≡ x → One (b ∷ s) n p ⊎ Two (b ∷ s) n p
     first true q =
         let v : ◌≡◌ {A = Option (ℕ × ℕ)} (Some (1, b)) (Some (n, p)) = simp (q, char_of) at e in
-        let w = some-pair v in inl (record { len = sym w.0; point = sym w.1; low = ltb-true b 0x80 q; some = omega arith })
+        let w = some_pair_parts 1 n b p v in inl (record { len = sym w.0; point = sym w.1; low = ltb-true b 0x80 q; some = omega arith })
     first false q = inr (second s (is_pair b (get_or s 0 0)) refl (simp (q, char_of) at e))
 
 -- a character has a byte at least, and no more than there are
@@ -301,17 +294,8 @@ ascii_run n [] f = sym (add-zero n)
 ascii_run n (b ∷ s) f =
     run-cons any n b s 1 b (at_one (b ∷ s) 0 (omega arith) (f 0)) refl ∙ ascii_run (n + 1) s (λ i. f (suc i)) ∙ omega arith
 
--- the greatest of the bytes and top is no less than any of them
-greatest : (s : List ℕ) (top : ℕ) → (top ≤ fold max top s) × ((i : ℕ) → get_or s i 0 ≤ fold max top s)
-greatest [] top = (omega arith, λ i. omega arith)
-greatest (b ∷ s) top = (omega (arith, (greatest s (max top b)).0), at (greatest s (max top b)))
-  where
-    at : (max top b ≤ fold max (max top b) s) × ((i : ℕ) → get_or s i 0 ≤ fold max (max top b) s) → (i : ℕ) → get_or (b ∷ s) i 0 ≤ fold max (max top b) s
-    at w zero = omega (arith, w.0)
-    at w (suc i) = w.1 i
-
-pub outside-ascii : (s : List ℕ) → fold max 0 s < 0x80 → outside_of s ≡ None
-outside-ascii s h = outside-no s (0 + length s) (ascii_run 0 s (λ i. omega (arith, (greatest s 0).1 i))) (omega arith)
+pub outside-ascii : (s : List ℕ) → ((i : ℕ) → get_or s i 0 < 0x80) → outside_of s ≡ None
+outside-ascii s f = outside-no s (0 + length s) (ascii_run 0 s f) (omega arith)
 
 -- the place is within the document
 pub outside-within : (s : List ℕ) (n : ℕ) → outside_of s ≡ Some n → n < length s

@@ -5,17 +5,21 @@
 use Rattle.std.proofs.Common.{Option, Some, None}
 use Prim.Native.Nat.{ℕ, zero, suc, ◌+◌, ◌-◌, ◌<◌, ◌≤◌}
 use native.Mathlib.Omega.{arith}
-use mathlib.Core.Path.{◌≡◌, refl, sym, ap, ◌∙◌}
+use mathlib.Core.Path.{◌≡◌, refl, sym, ap, subst, subst⁻¹, ◌∙◌}
 use mathlib.Core.Logic.{◌⊎◌, inl, inr, ⊎_elim}
 use mathlib.Core.List.{List, [], ◌∷◌, ◌++◌, append_assoc}
-use mathlib.Core.Bool.{Bool, true, false, false≢true}
-use lib.ListN.{length, get_or, drop, take, length-drop}
-use lib.Seq.{drop-drop, take-suc, length-take-le}
-use Rattle.rst_bytes.proofs.TestLaws.{lt-or-le}
-use borrow.Author.Tests.{eqb-true, eq-eqb}
+use mathlib.Core.Bool.{Bool, true, false, false≢true, and-eq-true_iff}
+use lib.ListN.{length, get_or, get_or-eq_default, drop, take, length-drop}
+use lib.Dec.{leb}
+use lib.Seq.{drop-drop, take-suc, length-take-le, get_or-take, get_or-drop}
+use Rattle.rst_bytes.proofs.Lists.{drop-two}
+use Rattle.rst_bytes.proofs.TestLaws.{lt-or-le, or_cases}
+use borrow.Author.Tests.{eqb-true, eq-eqb, leb-true}
+use Rattle.std.proofs.Common.{le-leb}
+use Rattle.std.proofs.lemmas.List.{take-take}
 use Rattle.rst_bytes.specs.Domain.{char_of, is_pair, run}
 use Rattle.rst_bytes.specs.Trim.{is_blank, blank_of, blanks, trim_of}
-use Rattle.rst_bytes.proofs.DomainLaws.{One, Two, pair-bounds, clash, char-cases, char-within, inside-at, run-taken, run-ended, run_none, run-from}
+use Rattle.rst_bytes.proofs.DomainLaws.{One, Two, at_one, pair-bounds, clash, char-cases, char-within, inside-at, run-taken, run-ended, run_none, run-from}
 
 -- a blank character of n bytes stands at the front
 record Blank (s : List ℕ) (n : ℕ) : Type 0 where
@@ -160,6 +164,120 @@ module _ (s : List ℕ) (n : ℕ) (w : Ends s n) where
       not-blank : (k : ℕ) → k < n → (x : Bool) → blanks (drop k s) ≡ x → blanks (drop k s) ≡ false
       not-blank k l false e = e
       not-blank k l true e = absurd (none_before n k (omega arith) l e)
+
+-- From the end: only blank characters stand behind x, a front part of s.
+pub record Trimmed (s x : List ℕ) : Type 0 where
+  pub within : length x ≤ length s
+  pub front : x ≡ take (length x) s
+  pub after : blanks (drop (length x) s) ≡ true
+
+-- a code point below 80 that is blank, and one that is blank
+low-blank : (p : ℕ) → ((9 ≤ p) × (p ≤ 13)) ⊎ (p ≡ 32) → is_blank p ≡ true
+unfolding is_blank
+low-blank p (inl w) = simp (le-leb 9 p w.0, le-leb p 13 w.1)
+low-blank p (inr e) = rw e refl
+
+blank-cases : (p : ℕ) → is_blank p ≡ true → (((9 ≤ p) × (p ≤ 13)) ⊎ (p ≡ 32)) ⊎ ((p ≡ 0x85) ⊎ (p ≡ 0xA0))
+unfolding is_blank
+blank-cases p e =
+    ⊎_elim
+    (λ f. ⊎_elim
+    (λ g. ⊎_elim
+    (λ h. let w = (and-eq-true_iff (leb 9 p) (leb p 13)).0 h in inl (inl (leb-true 9 p w.0, leb-true p 13 w.1)))
+    (λ h. inl (inr (eqb-true p 32 h)))
+    (or_cases _ _ g))
+    (λ g. inr (inl (eqb-true p 0x85 g)))
+    (or_cases _ _ f))
+    (λ f. inr (inr (eqb-true p 0xA0 f)))
+    (or_cases _ _ e)
+
+-- U+0085 and 00A0
+blank-two : (c : ℕ) (l : List ℕ) → (c ≡ 0x85) ⊎ (c ≡ 0xA0) → blank_of (0xC2 ∷ c ∷ l) ≡ 2
+unfolding blank_of char_of is_pair is_blank
+blank-two c l (inl e) = rw e refl
+blank-two c l (inr e) = rw e refl
+
+module _ (s x : List ℕ) (w : Trimmed s x) where
+  front-byte : (i : ℕ) → i < length x → get_or s i 0 ≡ get_or x i 0
+  front-byte i h = sym (ap (λ (l : List ℕ). get_or l i 0) w.front ∙ get_or-take (length x) s i 0 h)
+
+  -- without k bytes that are a blank character
+  without : (k : ℕ) → 0 < k → k ≤ length x → blank_of (drop (length x - k) s) ≡ k → Trimmed s (take (length x - k) x)
+  without k z h b =
+      let m : length (take (length x - k) x) ≡ length x - k = length-take-le (length x - k) x (omega arith) in
+      record {
+        within = omega (arith, w.within, m);
+        front = ap (take (length x - k)) w.front ∙ take-take (length x - k) (length x) s (omega arith) ∙ ap (λ (i : ℕ). take i s) (sym m);
+        after = ap (λ (i : ℕ). blanks (drop i s)) m ∙ blanks-back s (length x - k) k (length x) (omega arith) z b w.after;
+      }
+
+  pub without-one :
+      ((9 ≤ get_or x (length x - 1) 0) × (get_or x (length x - 1) 0 ≤ 13)) ⊎ (get_or x (length x - 1) 0 ≡ 32)
+      → Trimmed s (take (length x - 1) x)
+  without-one d =
+      let h : 0 < length x =
+      ⊎_elim
+      (λ l. l)
+      (λ l.
+      let z : get_or x (length x - 1) 0 ≡ 0 = get_or-eq_default x 0 (omega (arith, l)) in
+      ⊎_elim (λ v. omega (arith, v.0, z)) (λ v. omega (arith, v, z)) d)
+      (lt-or-le 0 (length x)) in
+      let e = front-byte (length x - 1) (omega arith) in
+      let low : get_or x (length x - 1) 0 < 0x80 = ⊎_elim (λ v. omega (arith, v.1)) (λ v. omega arith) d in
+      without 1 (omega arith) (omega arith)
+      (blank-yes (drop (length x - 1) s) 1 (get_or s (length x - 1) 0) (at_one s (length x - 1) (omega (arith, w.within)) (omega (arith, e, low))) (ap is_blank e ∙ low-blank _ d))
+
+  pub without-two :
+      1 < length x → get_or x (length x - 2) 0 ≡ 0xC2 → (get_or x (length x - 1) 0 ≡ 0x85) ⊎ (get_or x (length x - 1) 0 ≡ 0xA0)
+      → Trimmed s (take (length x - 2) x)
+  without-two h b d =
+      let i : length x - 2 + 1 ≡ length x - 1 = omega arith in
+      let two = drop-two s (length x - 2) (omega (arith, w.within)) in
+      let first = front-byte (length x - 2) (omega arith) ∙ b in
+      let second = ap (λ (j : ℕ). get_or s j 0) i ∙ front-byte (length x - 1) (omega arith) in
+      without 2 (omega arith) (omega arith)
+      (ap blank_of (two ∙ ap (λ (c : ℕ). c ∷ get_or s (length x - 2 + 1) 0 ∷ drop (length x - 2 + 2) s) first)
+      ∙ blank-two _ _ (subst⁻¹ (λ (c : ℕ). (c ≡ 0x85) ⊎ (c ≡ 0xA0)) second d))
+
+  -- where neither is left
+  pub trimmed-whole :
+      (0 < length x → ((9 ≤ get_or x (length x - 1) 0) × (get_or x (length x - 1) 0 ≤ 13)) ⊎ (get_or x (length x - 1) 0 ≡ 32) → ⊥)
+      → (1 < length x → get_or x (length x - 2) 0 ≡ 0xC2 → (get_or x (length x - 1) 0 ≡ 0x85) ⊎ (get_or x (length x - 1) 0 ≡ 0xA0) → ⊥)
+      → x ≡ take (trim_of s) s
+  trimmed-whole one two = w.front ∙ ap (λ (n : ℕ). take n s) (sym (ends-trim s (length x) (record { within = w.within; after = w.after; no_one = no-one; no-two = no_two })))
+    where
+      no-one : 0 < length x → blank_of (drop (length x - 1) s) ≡ 1 → ⊥
+      no-one h e =
+          let b = blank-is (drop (length x - 1) s) 1 e (omega arith) in
+          let g = get_or-drop (length x - 1) s 0 0 in
+          let f = front-byte (length x - 1) (omega arith) in
+          ⊎_elim
+          (λ (o : One (drop (length x - 1) s) 1 b.point).
+          let i : length x - 1 + 0 ≡ length x - 1 = omega arith in
+          let p : b.point ≡ get_or x (length x - 1) 0 = o.point ∙ g ∙ ap (λ (j : ℕ). get_or s j 0) i ∙ f in
+          ⊎_elim (λ v. one h (subst (λ (c : ℕ). ((9 ≤ c) × (c ≤ 13)) ⊎ (c ≡ 32)) p v)) (λ v. ⊎_elim (λ u. omega (arith, o.low, o.point, u)) (λ u. omega (arith, o.low, o.point, u)) v) (blank-cases b.point b.blank))
+          (λ (o : Two (drop (length x - 1) s) 1 b.point). absurd (omega (arith, o.len)))
+          (char-cases (drop (length x - 1) s) 1 b.point b.char)
+
+      no_two : 1 < length x → blank_of (drop (length x - 2) s) ≡ 2 → ⊥
+      no_two h e =
+          let b = blank-is (drop (length x - 2) s) 2 e (omega arith) in
+          let i : length x - 2 + 0 ≡ length x - 2 = omega arith in
+          let j : length x - 2 + 1 ≡ length x - 1 = omega arith in
+          let f = get_or-drop (length x - 2) s 0 0 ∙ ap (λ (m : ℕ). get_or s m 0) i ∙ front-byte (length x - 2) (omega arith) in
+          let g = get_or-drop (length x - 2) s 1 0 ∙ ap (λ (m : ℕ). get_or s m 0) j ∙ front-byte (length x - 1) (omega arith) in
+          ⊎_elim
+          (λ (o : One (drop (length x - 2) s) 2 b.point). absurd (omega (arith, o.len)))
+          (λ (o : Two (drop (length x - 2) s) 2 b.point).
+          let k = pair-bounds _ _ o.pair in
+          ⊎_elim
+          (λ v. absurd (⊎_elim (λ u. omega (arith, k.first-low, k.second-low, o.point, u.1)) (λ u. omega (arith, k.first-low, k.second-low, o.point, u)) v))
+          (λ v. ⊎_elim
+          (λ u. two h (omega (arith, k.first-low, k.second-low, k.second-high, o.point, u, f)) (inl (omega (arith, k.first-low, k.second-low, k.second-high, o.point, u, g))))
+          (λ u. two h (omega (arith, k.first-low, k.second-low, k.second-high, o.point, u, f)) (inr (omega (arith, k.first-low, k.second-low, k.second-high, o.point, u, g))))
+          v)
+          (blank-cases b.point b.blank))
+          (char-cases (drop (length x - 2) s) 2 b.point b.char)
 
 -- the trimmed text is within what there is
 pub trim-within : (s : List ℕ) → trim_of s ≤ length s

@@ -10,16 +10,14 @@ unfoldable pub is_ascii_word : ℕ → Bool
 is_ascii_word c =
     between 0x30 0x39 c || between 0x41 0x5A c || between 0x61 0x7A c || eqb c 0x2D || eqb c 0x5F
 
--- the first and the last code point of each range, one after the other
-unfoldable pub word_ranges : List ℕ
-word_ranges =
-    0xAA ∷ 0xAA ∷ 0xB2 ∷ 0xB3 ∷ 0xB5 ∷ 0xB5 ∷ 0xB9 ∷ 0xBA ∷ 0xBC ∷ 0xBE ∷ 0xC0 ∷ 0xD6 ∷ 0xD8 ∷ 0xF6 ∷ 0xF8 ∷ 0x24F ∷ []
+-- the first and the last code point of each range
+unfoldable pub word_ranges : List (ℕ × ℕ)
+word_ranges = (0xAA, 0xAA) ∷ (0xB2, 0xB3) ∷ (0xB5, 0xB5) ∷ (0xB9, 0xBA) ∷ (0xBC, 0xBE) ∷ (0xC0, 0xD6) ∷ (0xD8, 0xF6) ∷ (0xF8, 0x24F) ∷ []
 
 -- c is in one of the ranges
-unfoldable pub in_ranges : ℕ → List ℕ → Bool
+unfoldable pub in_ranges : ℕ → List (ℕ × ℕ) → Bool
 in_ranges c [] = false
-in_ranges c (a ∷ []) = false
-in_ranges c (a ∷ z ∷ rest) = between a z c || in_ranges c rest
+in_ranges c ((first, last) ∷ rest) = between first last c || in_ranges c rest
 
 unfoldable pub is_word : ℕ → Bool
 is_word c = is_ascii_word c || in_ranges c word_ranges

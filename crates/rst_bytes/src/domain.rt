@@ -25,12 +25,10 @@ pub fn char_at(s: &[u8], i: usize) -> Option<(usize, u32)>
 pub fn first_outside(s: &[u8]) -> Option<usize>
     ensures { result ≡ outside_of s.now }
 {
-    // By the greatest byte: none ends the fold, so many are taken at a time.
-    let greatest = s.iter().fold(0, |top, &b| top.max(b));
-    if greatest < 0x80 {
+    if s.is_ascii() {
         return None;
     }
-    // No `for`: a character takes one byte or two.
+    // No `for`: a character takes one byte or two. An iterator over characters would hold this loop, behind one more contract.
     let mut i = 0;
     while i < s.len() {
         let Some((len, _)) = char_at(s, i) else {

@@ -35,6 +35,7 @@ fn take_escaped(s: &[u8], p: u8, q: u8) -> Option<usize>
 }
 
 // `escaped` with the stop set of p and q; a set of one byte names it twice.
+#[inline(never)]
 #[tactic(auto, unfolding(crate::specs::Escaped::escaped_of))]
 pub fn escaped(s: &[u8], p: u8, q: u8) -> Option<usize>
     ensures { result ≡ escaped_of p q s.now }

@@ -12,7 +12,8 @@ pub fn is_stop(p: u8, q: u8, b: u8) -> bool
     b == p || b == q
 }
 
-// Whether no byte is p or q. All bytes are looked at, whatever was found: so they are compared many at once.
+// Whether no byte is p or q. All bytes are looked at, whatever was found: so they are compared many at once. Not by the library's
+// `contains`: it looks for one byte and then for the other, and a call on blocks that are no targets took 3 to 15 in 100 instructions more.
 fn is_free(s: &[u8], p: u8, q: u8) -> bool
     ensures { result ≡ free p q s.now }
 {

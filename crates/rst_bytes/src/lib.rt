@@ -1,9 +1,9 @@
 // Bytes and the pieces of `nom`: the domain, characters, words, `trim_end`, `escaped` and lines.
 //
 // The lowest layer (document 01, "Bytes and the `nom` pieces"). A function takes the part of the document that starts at its
-// place, reads nothing else, asks nothing of its caller and always returns; its contract is an equation with a definition of
-// specs/, but that of `free_front`, which may stop anywhere before what it is to pass by, and of `copy`, which is no piece of `nom`,
-// asks for room and says itself what it leaves.
+// place, but `char_at` all of it and a place; it reads nothing else, asks nothing of its caller and always returns; its contract is
+// an equation with a definition of specs/, but that of `free_front`, which may stop anywhere before what it is to pass by, and of
+// `copy`, which is no piece of `nom`, asks for room and says itself what it leaves.
 #![tactic(auto)]
 
 pub mod copy;

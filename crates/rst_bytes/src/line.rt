@@ -48,10 +48,8 @@ pub fn not_line_ending(s: &[u8]) -> Option<usize>
     if i == s.len() {
         return Some(i);
     }
-    match line_ending(&s[i..]) {
-        Some(_) => Some(i),
-        None => None,
-    }
+    line_ending(&s[i..])?;
+    Some(i)
 }
 
 // A space or a tab.

@@ -6,36 +6,28 @@ ghost use Rattle.rst_bytes.specs.Inner.{apart};
 use crate::domain::char_at;
 
 // The word characters above 7F: the first and the last code point of each range.
-const WORD_RANGES: [u32; 16] = [
-    0xAA, 0xAA, 0xB2, 0xB3, 0xB5, 0xB5, 0xB9, 0xBA, 0xBC, 0xBE, 0xC0, 0xD6, 0xD8, 0xF6, 0xF8, 0x24F,
+const WORD_RANGES: [(u32, u32); 8] = [
+    (0xAA, 0xAA),
+    (0xB2, 0xB3),
+    (0xB5, 0xB5),
+    (0xB9, 0xBA),
+    (0xBC, 0xBE),
+    (0xC0, 0xD6),
+    (0xD8, 0xF6),
+    (0xF8, 0x24F),
 ];
 
-// Whether c is in one of the ranges of a table whose ranges are in order and apart.
-fn in_ranges(t: &[u32], c: u32) -> bool
+// Whether c is in one of the ranges of a table whose ranges are in order and apart: only the first that does not end below c can have it.
+fn in_ranges(t: &[(u32, u32)], c: u32) -> bool
     requires { T (apart t.now) }
     ensures { result ≡ in_ranges c t.now }
 {
-    let mut lo = 0;
-    let mut hi = t.len() / 2;
-    while lo < hi {
-        let mid = lo + (hi - lo) / 2;
-        let k = 2 * mid;
-        let first = t[k];
-        if c < first {
-            hi = mid;
-        } else {
-            let last = t[k + 1];
-            if last < c {
-                lo = mid + 1;
-            } else {
-                return true;
-            }
-        }
-    }
-    false
+    let k = t.partition_point(|r| r.1 < c);
+    t.get(k).is_some_and(|r| r.0 <= c)
 }
 
-// An ASCII letter or digit, '-' or '_'. Small letters, of which a text has the most, are told first.
+// An ASCII letter or digit, '-' or '_'. Small letters, of which a text has the most, are told first: by one `matches!` 250 references took 5
+// in 100 instructions more, where the bar leaves little, and a short note, where it leaves nothing, 1.
 fn is_ascii_word(c: u32) -> bool
     ensures { result ≡ is_ascii_word c }
 {
@@ -68,34 +60,17 @@ pub fn is_word(c: u32) -> bool
     }
 }
 
-// How many bytes the maximal run of word characters at the front takes. A byte below 80 is a character by itself.
+// How many bytes the maximal run of word characters at the front takes.
 pub fn word_run(s: &[u8]) -> usize
     ensures { result ≡ word_of s.now }
 {
     let mut i = 0;
-    // No `for`: a character takes one byte or two.
-    while i < s.len() {
-        let b = s[i];
-        if b < 0x80 {
-            if is_ascii_word(b as u32) {
-                i = i + 1;
-            } else {
-                return i;
-            }
-        } else {
-            match char_at(s, i) {
-                Some((len, point)) => {
-                    if is_word(point) {
-                        i = i + len;
-                    } else {
-                        return i;
-                    }
-                }
-                None => {
-                    return i;
-                }
-            }
+    // No `for`: a character takes one byte or two, as in `first_outside`.
+    while let Some((len, point)) = char_at(s, i) {
+        if !is_word(point) {
+            return i;
         }
+        i += len;
     }
     i
 }

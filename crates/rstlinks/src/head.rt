@@ -12,7 +12,7 @@ pub struct Head {
     pub dest: usize,
 }
 
-// The fields of the record that starts at the front.
+// The fields of the record that starts at the front: of a slice, which asks less than an array of eight bytes.
 pub fn read_head(s: &[u8]) -> Head
     requires { 8 ≤ length s.now }
     ensures fields { result ≡ head_of s.now }

@@ -14,10 +14,12 @@ pub fn outcome(rt: &impl Print, r: Outcome, output: &[u8]) -> io::Result<()>
         links,
         bytes,
     } = r;
+    // 0 is accepted: the program calls what C calls.
     if number != 0 {
         return println!(rt; "refused {number}");
     }
     println!(rt; "links {links}")?;
+    // Never: the records stand in the output.
     let Some(records) = output.get(..bytes as usize) else {
         return Ok(());
     };

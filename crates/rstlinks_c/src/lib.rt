@@ -27,6 +27,8 @@ pub struct Taken {
     pub second: u32,
 }
 
+// What follows are no `From`: each asks that 32 bits hold its numbers.
+
 fn refused(r: Refusal) -> Taken
     requires { Short (bytes_of r) }
     ensures { result ≡ refusal (number_of r) (bytes_of r) }
@@ -38,6 +40,7 @@ fn refused(r: Refusal) -> Taken
     }
 }
 
+// Five parameters: a record's fields, with the number of its kind as C has it.
 fn linked(kind: u32, a: Span, b: Span, skipped: usize, consumed: usize) -> Taken
     requires { AllShort a.len b.len skipped consumed }
     ensures { result ≡ acceptance kind a.len b.len skipped consumed }
@@ -52,7 +55,6 @@ fn linked(kind: u32, a: Span, b: Span, skipped: usize, consumed: usize) -> Taken
     }
 }
 
-// No `From`: it asks that 32 bits hold the lengths.
 fn link(x: Link) -> Taken
     requires { LinkShort x }
     ensures { result ≡ link_taken x }

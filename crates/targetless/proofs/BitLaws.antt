@@ -1,7 +1,7 @@
 -- The bits of numbers: where both are set, where one is, and which ones the lowest n are.
 -- Assumes nothing.
 use Rattle.std.proofs.Common.{◌≡◌, ℕ, ◌-◌, ◌/◌, ◌%◌, ◌^◌, ◌<◌, true, ◌⊎◌, inl, inr, ⊎_elim, sym, ◌∙◌, arith, bit_and, bit_or, eqb-true, eq-eqb, leb, leb-true, leb-false}
-use Rattle.std.specs.Int.{w64}
+use Rattle.std.specs.Int.{w128}
 use Rattle.std.proofs.Math.Pow.{pow-lt}
 use Rattle.std.proofs.lemmas.Nat.Bits.{shr_and_one, bit_at-zero, bit_at_and, bit_at_or, bit_at_above, bit_at_ones, bit_at_ones_above, bit_at_not}
 use Rattle.rst_bytes.proofs.TestLaws.{by-test, lt-or-le}
@@ -39,17 +39,17 @@ bit-none k e = omega (arith, bit_is 0 k e, bit_at-zero k)
 pub bit-ones : (n k : ℕ) → bit_at (ones_of n) k ≡ true → k < n
 unfolding ones_of
 bit-ones n k =
-    by-test (λ (x : ℕ). bit_at x k ≡ true → k < n) (leb 64 n) ones (2 ^ n - 1)
-    (λ h e. ⊎_elim (λ l. omega (arith, leb-true 64 n h, l)) (λ l. absurd (omega (arith, bit_is ones k e, bit_at_ones_above 64 k l))) (lt-or-le k 64))
+    by-test (λ (x : ℕ). bit_at x k ≡ true → k < n) (leb 128 n) ones (2 ^ n - 1)
+    (λ h e. ⊎_elim (λ l. omega (arith, leb-true 128 n h, l)) (λ l. absurd (omega (arith, bit_is ones k e, bit_at_ones_above 128 k l))) (lt-or-le k 128))
     (λ h e. ⊎_elim (λ l. l) (λ l. absurd (omega (arith, bit_is (2 ^ n - 1) k e, bit_at_ones_above n k l))) (lt-or-le k n))
 
 -- the others
 pub bit-beyond : (n k : ℕ) → k < n → bit_at (ones - ones_of n) k ≡ true → ⊥
 unfolding ones_of
 bit-beyond n k h =
-    by-test (λ (x : ℕ). bit_at (ones - x) k ≡ true → ⊥) (leb 64 n) ones (2 ^ n - 1)
+    by-test (λ (x : ℕ). bit_at (ones - x) k ≡ true → ⊥) (leb 128 n) ones (2 ^ n - 1)
     (λ e. bit-none k)
     (λ e f.
-    let l : n < 64 = leb-false 64 n e in
-    let p : 2 ^ n < 2 ^ 64 = pow-lt l in
-    omega (arith, bit_is (ones - (2 ^ n - 1)) k f, bit_at_not w64 (2 ^ n - 1) k (omega (arith, p)) (omega (arith, h, l)), bit_at_ones n k h))
+    let l : n < 128 = leb-false 128 n e in
+    let p : 2 ^ n < 2 ^ 128 = pow-lt l in
+    omega (arith, bit_is (ones - (2 ^ n - 1)) k f, bit_at_not w128 (2 ^ n - 1) k (omega (arith, p)) (omega (arith, h, l)), bit_at_ones n k h))

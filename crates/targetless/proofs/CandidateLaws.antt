@@ -15,7 +15,7 @@ use Rattle.restructured_text.proofs.BlockLaws.{from}
 use Rattle.targetless.specs.declared.verdict.Verdict.{Verdict}
 use Rattle.targetless.specs.declared.walk.Walk.{Walk}
 use Rattle.targetless.specs.Targetless.{NoTarget}
-use Rattle.targetless.specs.Verdict.{joined_of, OfText, Blank, ends_line, judged_of, Tells, Flagged}
+use Rattle.targetless.specs.Verdict.{joined_of, OfText, Blank, ends_line, judged_of, judged_in, Tells, Flagged}
 use Rattle.targetless.specs.Runs.{Unnamed, is_dead, plain_run, quoted_run, closed_run}
 use Rattle.targetless.specs.Walk.{Lined, Walked, header_of}
 use Rattle.targetless.proofs.TextLaws.{first-is, line_refused, line_taken, text-byte}
@@ -37,6 +37,11 @@ flagged-behind on indent b l e o n t = o (suc n) (line_taken b l e n t ∙ ap So
 pub some-if : (P : ℕ → Type 0) (b : Bool) (k : ℕ) → (b ≡ true → P k) → IfSome (then_some b k) P
 some-if P true k f = f refl
 some-if P false k f = tt
+
+-- the flag and the indent in one
+pub judged-then : (v : Verdict) (on : Bool) (k : ℕ) (o : Option ℕ) → o ≡ then_some on k → judged_in v o ≡ judged_of v on k
+judged-then v true k o e = ap (judged_in v) e
+judged-then v false k o e = ap (judged_in v) e
 
 -- Names behind `.. _`.
 module _ (indent l : List ℕ) where

@@ -1,4 +1,5 @@
--- The laws of Verdict, Runs and Walk, which the proofs of the functions need; ClearLaws is for `iterator`.
+-- The laws of Verdict, Runs and Walk, which the proofs of the functions need; `Named` holds laws that docs/ names and that no other proof
+-- uses now.
 pub mod BitLaws
 pub mod TextLaws
 pub mod BlankLaws
@@ -8,9 +9,9 @@ pub mod SizeLaws
 pub mod NameLaws
 pub mod WordLaws
 pub mod TargetLaws
-pub mod ClearLaws
 pub mod LineTargetLaws
 pub mod StateLaws
 pub mod EscapeLaws
 pub mod WalkLaws
 pub mod CandidateLaws
+pub mod Named

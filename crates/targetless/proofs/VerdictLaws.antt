@@ -14,8 +14,8 @@ use mathlib.Core.Bool.{Bool, true, false, ◌&&◌, ◌||◌, false≢true}
 use mathlib.Core.Logic.{◌⊎◌, inl, inr, ⊎_elim}
 use lib.Dec.{eqb, ltb}
 use Rattle.std.proofs.lemmas.Bool.{or_right}
-use lib.ListN.{length, drop, length-drop, length-append}
-use borrow.Author.Tests.{eq-eqb, ne_eqb, ltb-true, ltb-false, lt-ltb, le-ltb}
+use lib.ListN.{length, drop, length-append}
+use borrow.Author.Tests.{eq-eqb, ne_eqb, ltb-true, lt-ltb}
 use Rattle.rst_bytes.specs.Line.{line_from, not_line_ending_of, is_space}
 use Rattle.rst_bytes.specs.Tag.{starts_with}
 use Rattle.rst_bytes.proofs.TestLaws.{picks_first, picks_second, by-test, by-test₂}
@@ -30,32 +30,19 @@ use Rattle.targetless.proofs.BitLaws.{bit_is, bit-both, bit-either, bit-small, b
 use Rattle.targetless.proofs.TextLaws.{line-behind, text-byte, line-here, line-stops, text-end, text-further, further-lf-other, further-lf-starts, further-none-at, crlf-further, crlf-text, crlf-here}
 
 -- What a verdict says where a further line follows.
-judged-cases : (v : Verdict) (k : ℕ) → judged_of v true k ≡ true → ((k < 63) × (bit_at v.short (k + 1) ≡ true)) ⊎ ((63 ≤ k) × (k < 127) × (bit_at v.long (k - 63) ≡ true))
-judged-cases v k =
-    by-test (λ (x : Bool). x ≡ true → ((k < 63) × (bit_at v.short (k + 1) ≡ true)) ⊎ ((63 ≤ k) × (k < 127) × (bit_at v.long (k - 63) ≡ true))) (ltb k 63) _ _
-    (λ e j. inl (ltb-true k 63 e, j))
-    (λ e. by-test (λ (x : Bool). x ≡ true → ((k < 63) × (bit_at v.short (k + 1) ≡ true)) ⊎ ((63 ≤ k) × (k < 127) × (bit_at v.long (k - 63) ≡ true))) (ltb k 127) _ _
-    (λ f j. inr (ltb-false k 63 e, ltb-true k 127 f, j))
-    (λ f j. absurd (false≢true j)))
-
-judged-short : (v : Verdict) (k : ℕ) → k < 63 → bit_at v.short (k + 1) ≡ true → judged_of v true k ≡ true
-judged-short v k h e = picks_first (ltb k 63) _ _ (lt-ltb k 63 h) ∙ e
-
-judged-long : (v : Verdict) (k : ℕ) → 63 ≤ k → k < 127 → bit_at v.long (k - 63) ≡ true → judged_of v true k ≡ true
-judged-long v k h g e = picks_second (ltb k 63) _ _ (le-ltb k 63 h) ∙ picks_first (ltb k 127) _ _ (lt-ltb k 127 g) ∙ e
+judged-bit : (v : Verdict) (k : ℕ) → judged_of v true k ≡ true → (k < 127) × (bit_at v.bits (k + 1) ≡ true)
+judged-bit v k =
+    by-test (λ (x : Bool). x ≡ true → (k < 127) × (bit_at v.bits (k + 1) ≡ true)) (ltb k 127) _ _
+    (λ f j. (ltb-true k 127 f, j))
+    (λ f j. absurd (false≢true j))
 
 -- by the bits of two verdicts
-judged-map :
-    (v w : Verdict) (k : ℕ) → (bit_at v.short (k + 1) ≡ true → bit_at w.short (k + 1) ≡ true)
-    → (63 ≤ k → bit_at v.long (k - 63) ≡ true → bit_at w.long (k - 63) ≡ true) → judged_of v true k ≡ true → judged_of w true k ≡ true
-judged-map v w k f g =
-    by-test₂ (λ (x y : Bool). x ≡ true → y ≡ true) (ltb k 63) _ _ _ _
-    (λ e. f)
-    (λ e. by-test₂ (λ (x y : Bool). x ≡ true → y ≡ true) (ltb k 127) _ _ _ _ (λ i. g (ltb-false k 63 e)) (λ i j. j))
+judged-map : (v w : Verdict) (k : ℕ) → (bit_at v.bits (k + 1) ≡ true → bit_at w.bits (k + 1) ≡ true) → judged_of v true k ≡ true → judged_of w true k ≡ true
+judged-map v w k f = by-test₂ (λ (x y : Bool). x ≡ true → y ≡ true) (ltb k 127) _ _ _ _ (λ e. f) (λ e j. j)
 
 -- nothing is told
 nothing-judged : (x : Bool) (k : ℕ) → judged_of nothing x k ≡ true → ⊥
-nothing-judged true k j = ⊎_elim (λ w. bit-none (k + 1) w.1) (λ w. bit-none (k - 63) w.2) (judged-cases nothing k j)
+nothing-judged true k j = bit-none (k + 1) (judged-bit nothing k j).1
 nothing-judged false k j = false≢true j
 
 pub tells-nothing : (f : List ℕ → Bool) (s : List ℕ) → Tells f nothing s
@@ -81,67 +68,52 @@ tells-sure f true s g = tells_all f everything s g
 tells-sure f false s g = tells-nothing f s
 
 -- What two verdicts say, for all indents and where no further line follows.
-lone-digit : (v : Verdict) → is_lone v ≡ true → bit_at v.short 0 ≡ true
+lone-digit : (v : Verdict) → is_lone v ≡ true → bit_at v.bits 0 ≡ true
 unfolding bit_at
-lone-digit v e = ap (λ (x : ℕ). eqb (bit_and x 1) 1) (div-one v.short) ∙ e
+lone-digit v e = ap (λ (x : ℕ). eqb (bit_and x 1) 1) (div-one v.bits) ∙ e
 
-digit-lone : (v : Verdict) → bit_at v.short 0 ≡ true → is_lone v ≡ true
+digit-lone : (v : Verdict) → bit_at v.bits 0 ≡ true → is_lone v ≡ true
 unfolding bit_at
-digit-lone v e = sym (ap (λ (x : ℕ). eqb (bit_and x 1) 1) (div-one v.short)) ∙ e
+digit-lone v e = sym (ap (λ (x : ℕ). eqb (bit_and x 1) 1) (div-one v.bits)) ∙ e
 
 pub judged-both : (a b : Verdict) (x : Bool) (k : ℕ) → judged_of (both_of a b) x k ≡ true → (judged_of a x k ≡ true) × (judged_of b x k ≡ true)
 judged-both a b true k j = (
-  judged-map (both_of a b) a k (λ e. (bit-both a.short b.short (k + 1) e).0) (λ h e. (bit-both a.long b.long (k - 63) e).0) j,
-  judged-map (both_of a b) b k (λ e. (bit-both a.short b.short (k + 1) e).1) (λ h e. (bit-both a.long b.long (k - 63) e).1) j,
+  judged-map (both_of a b) a k (λ e. (bit-both a.bits b.bits (k + 1) e).0) j,
+  judged-map (both_of a b) b k (λ e. (bit-both a.bits b.bits (k + 1) e).1) j,
 )
 judged-both a b false k j =
-    let w = bit-both a.short b.short 0 (lone-digit (both_of a b) j) in
+    let w = bit-both a.bits b.bits 0 (lone-digit (both_of a b) j) in
     (digit-lone a w.0, digit-lone b w.1)
 
 judged-either : (a b : Verdict) (x : Bool) (k : ℕ) → judged_of (either_of a b) x k ≡ true → (judged_of a x k ≡ true) ⊎ (judged_of b x k ≡ true)
 judged-either a b true k j =
-    ⊎_elim
-    (λ w. ⊎_elim
-    (λ e. inl (judged-short a k w.0 e))
-    (λ e. inr (judged-short b k w.0 e))
-    (bit-either a.short b.short (k + 1) w.1))
-    (λ w. ⊎_elim
-    (λ e. inl (judged-long a k w.0 w.1 e))
-    (λ e. inr (judged-long b k w.0 w.1 e))
-    (bit-either a.long b.long (k - 63) w.2))
-    (judged-cases (either_of a b) k j)
+    let w = judged-bit (either_of a b) k j in
+    let is : (v : Verdict) → bit_at v.bits (k + 1) ≡ true → judged_of v true k ≡ true = λ v e. picks_first (ltb k 127) _ _ (lt-ltb k 127 w.0) ∙ e in
+    ⊎_elim (λ e. inl (is a e)) (λ e. inr (is b e)) (bit-either a.bits b.bits (k + 1) w.1)
 judged-either a b false k j =
     ⊎_elim
     (λ e. inl (digit-lone a e))
     (λ e. inr (digit-lone b e))
-    (bit-either a.short b.short 0 (lone-digit (either_of a b) j))
+    (bit-either a.bits b.bits 0 (lone-digit (either_of a b) j))
 
 -- the indents of at most m bytes with three spaces
 pub judged-up-to : (m k : ℕ) → judged_of (up_to_of m) true k ≡ true → k + 3 ≤ m
-judged-up-to m k j =
-    ⊎_elim
-    (λ w. omega (arith, bit-ones (m - 1) (k + 1) w.1))
-    (λ w. omega (arith, w.0, bit-ones (m - 65) (k - 63) w.2))
-    (judged-cases (up_to_of m) k j)
+judged-up-to m k j = omega (arith, bit-ones (m - 1) (k + 1) (judged-bit (up_to_of m) k j).1)
 
 judged-beyond : (m k : ℕ) → k + 3 ≤ m → judged_of (beyond_of m) true k ≡ true → ⊥
-judged-beyond m k h j =
-    ⊎_elim
-    (λ w. bit-beyond (m - 1) (k + 1) (omega arith) w.1)
-    (λ w. bit-beyond (m - 65) (k - 63) (omega (arith, w.0)) w.2)
-    (judged-cases (beyond_of m) k j)
+judged-beyond m k h j = bit-beyond (m - 1) (k + 1) (omega arith) (judged-bit (beyond_of m) k j).1
 
 -- with another answer where no further line follows
 one-small : (k : ℕ) → 1 < 2 ^ (k + 1)
 one-small k = let h : 2 ^ 0 < 2 ^ (k + 1) = pow-lt {i = 0} {j = k + 1} (omega arith) in h
 
 pub judged-lone : (v : Verdict) (lone : Bool) (k : ℕ) → judged_of (lone_of v lone) true k ≡ true → judged_of v true k ≡ true
-judged-lone v true k = judged-map (lone_of v true) v k (λ e. ⊎_elim (λ f. f) (λ f. absurd (bit-small 1 (k + 1) (one-small k) f)) (bit-either v.short 1 (k + 1) e)) (λ h e. e)
-judged-lone v false k = judged-map (lone_of v false) v k (λ e. (bit-both v.short 0xffff_ffff_ffff_fffe (k + 1) e).0) (λ h e. e)
+judged-lone v true k = judged-map (lone_of v true) v k (λ e. ⊎_elim (λ f. f) (λ f. absurd (bit-small 1 (k + 1) (one-small k) f)) (bit-either v.bits 1 (k + 1) e))
+judged-lone v false k = judged-map (lone_of v false) v k (λ e. (bit-both v.bits 0xffff_ffff_ffff_ffff_ffff_ffff_ffff_fffe (k + 1) e).0)
 
 pub lone_is : (v : Verdict) (lone : Bool) (k : ℕ) → judged_of (lone_of v lone) false k ≡ true → lone ≡ true
 lone_is v true k j = refl
-lone_is v false k j = absurd (omega (arith, sym (bit_is 0xffff_ffff_ffff_fffe 0 (bit-both v.short 0xffff_ffff_ffff_fffe 0 (lone-digit (lone_of v false) j)).1)))
+lone_is v false k j = absurd (omega (arith, sym (bit_is 0xffff_ffff_ffff_ffff_ffff_ffff_ffff_fffe 0 (bit-both v.bits 0xffff_ffff_ffff_ffff_ffff_ffff_ffff_fffe 0 (lone-digit (lone_of v false) j)).1)))
 
 -- what both say
 pub tells_both : (f g : List ℕ → Bool) (a b : Verdict) (s : List ℕ) → Tells f a s → Tells g b s → Tells (λ t. f t && g t) (both_of a b) s
@@ -322,10 +294,6 @@ module _ (indent l : List ℕ) (blank : Blank indent) where
       go false f = further-lf-other indent l f
 
 -- Whether a further line follows.
-
--- nothing begins with an indent and three spaces at the text's end
-end-starts : (indent s : List ℕ) → starts_with (indent ++ three) (drop (length s) s) ≡ false
-end-starts indent s = starts-shorter (indent ++ three) (drop (length s) s) (omega (arith, length-append indent three, length-drop (length s) s))
 
 -- a byte of the line before it
 pub follows-byte : (next : List ℕ) (b : ℕ) (l : List ℕ) → ends_line b ≡ false → Follows next l → Follows next (b ∷ l)

@@ -6,13 +6,13 @@ use Rattle.std.proofs.lemmas.Bool.{false≢true}
 use Rattle.std.proofs.Math.Seq.{drop-length}
 use mathlib.Core.Path.{subst⁻¹}
 use lib.ListN.{length-replicate, get_or-replicate, get_or-eq_default}
-use borrow.Author.Tests.{eqb-false}
+use borrow.Author.Tests.{eqb-false, eq-eqb, ne_eqb}
 use lib.Seq.{drop-drop, get_or-set_other}
 use Rattle.rst_bytes.specs.Line.{is_space, space0_of, not_line_ending_of}
 use Rattle.rst_bytes.specs.Tag.{starts_with}
 use Rattle.rst_bytes.specs.Word.{is_ascii_word}
 use Rattle.rst_bytes.proofs.Lists.{part-from}
-use Rattle.rst_bytes.proofs.TestLaws.{lt-or-le}
+use Rattle.rst_bytes.proofs.TestLaws.{lt-or-le, picks_first, picks_second}
 use Rattle.rst_bytes.proofs.EscapedLaws.{refused-taken, taken_is}
 use Rattle.restructured_text.specs.Block.{further_of}
 use Rattle.restructured_text.proofs.BlockLaws.{from}
@@ -210,6 +210,17 @@ crlf-walked w l told =
       front = front-here 13 (10 ∷ l) w.front refl (tells-cr is_dead w.front l (subst (λ (k : ℕ). Tells is_dead w.front (drop k (10 ∷ l))) (blanks-none 10 l refl) told.front));
       next = lined-cr w.next l told.next;
     }
+
+-- LF is the first byte, or it is not
+pub lf-first : (l : List ℕ) → 0 < length l → get_or l 0 0 ≡ 10 → starts_with (10 ∷ []) l ≡ true
+unfolding starts_with
+lf-first [] h e = absurd (omega arith)
+lf-first (b ∷ l) h e = picks_first _ _ _ (eq-eqb b 10 e)
+
+pub lf-other : (l : List ℕ) → (0 < length l → get_or l 0 0 ≡ 10 → ⊥) → starts_with (10 ∷ []) l ≡ false
+unfolding starts_with
+lf-other [] h = refl
+lf-other (b ∷ l) h = picks_second _ _ _ (ne_eqb b 10 (h (omega arith)))
 
 pub walked-cr : (w : Walk) (l : List ℕ) → Walked w l → starts_with (10 ∷ []) l ≡ true → Walked (record w { far = w.near }) (13 ∷ l)
 walked-cr w l told e =

@@ -4,8 +4,7 @@
 -- Verdict, Runs and Walk are what the contracts of private functions speak of.
 --
 -- Laws, proved in the file of proofs/ that is named, for the layers above:
---   WalkLaws marks-none: nothing is claimed where nothing is marked; ClearLaws Cleared, clear_none, clear-more, clear-all: an area that is
---   zeroed from its front
+--   WalkLaws marks-none: nothing is claimed where nothing is marked
 pub mod Targetless
 pub mod Verdict
 pub mod Runs

@@ -1,7 +1,7 @@
 -- What the contracts of private functions speak of: the runs that tell whether a block's text is a target.
 -- Assumes nothing.
 use Rattle.std.specs.Prelude.{Option, Some, None}
-use Rattle.std.specs.Prelude.{ℕ, ◌+◌, ◌-◌, ◌*◌, ◌≤◌, List, [], ◌∷◌, Bool, true, false, ◌&&◌, ◌||◌, not, eqb, leb, ltb, length, get_or, drop, take, ◌≡◌}
+use Rattle.std.specs.Prelude.{ℕ, ◌+◌, ◌-◌, ◌*◌, ◌≤◌, List, [], ◌∷◌, Bool, true, false, ◌&&◌, ◌||◌, not, eqb, leb, ltb, length, get_or, drop, ◌≡◌}
 use Rattle.rst_bytes.specs.Escaped.{is_escapable, taking}
 use Rattle.rst_bytes.specs.Line.{not_line_ending_of}
 use Rattle.rst_bytes.specs.Tag.{starts_with}

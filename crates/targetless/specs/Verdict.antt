@@ -27,7 +27,7 @@ Blank indent = (i : ℕ) → i < length indent → is_space (get_or indent i 0) 
 
 -- all bits of a number
 abbrev pub ones : ℕ
-ones = 0xffff_ffff_ffff_ffff
+ones = 0xffff_ffff_ffff_ffff_ffff_ffff_ffff_ffff
 
 -- bit k is 1
 unfoldable pub bit_at : ℕ → ℕ → Bool
@@ -35,24 +35,25 @@ bit_at x k = eqb (bit_and (x / 2 ^ k) 1) 1
 
 -- it is so where no further line follows
 abbrev pub is_lone : Verdict → Bool
-is_lone v = eqb (bit_and v.short 1) 1
+is_lone v = eqb (bit_and v.bits 1) 1
 
 -- what a verdict says for an indent of k bytes, by whether a further line follows
 abbrev pub judged_of : Verdict → Bool → ℕ → Bool
-judged_of v true k =
-    elim (ltb k 63) [
-      | true ↦ bit_at v.short (k + 1)
-      | false ↦ elim (ltb k 127) [ true ↦ bit_at v.long (k - 63) | false ↦ false ]
-    ]
+judged_of v true k = elim (ltb k 127) [ true ↦ bit_at v.bits (k + 1) | false ↦ false ]
 judged_of v false k = is_lone v
+
+-- the same by the bytes of an indent behind which a further line follows, if one does
+abbrev pub judged_in : Verdict → Option ℕ → Bool
+judged_in v (Some k) = judged_of v true k
+judged_in v None = judged_of v false 0
 
 -- it is so for each indent
 abbrev pub everything : Verdict
-everything = record { short = ones; long = ones }
+everything = record { bits = ones }
 
 -- nothing is told
 abbrev pub nothing : Verdict
-nothing = record { short = 0; long = 0 }
+nothing = record { bits = 0 }
 
 abbrev pub sure_of : Bool → Verdict
 sure_of true = everything
@@ -60,23 +61,23 @@ sure_of false = nothing
 
 -- what both say
 abbrev pub both_of : Verdict → Verdict → Verdict
-both_of a b = record { short = bit_and a.short b.short; long = bit_and a.long b.long }
+both_of a b = record { bits = bit_and a.bits b.bits }
 
 -- what one of them says
 abbrev pub either_of : Verdict → Verdict → Verdict
-either_of a b = record { short = bit_or a.short b.short; long = bit_or a.long b.long }
+either_of a b = record { bits = bit_or a.bits b.bits }
 
 -- for the other indents
 abbrev pub not_of : Verdict → Verdict
-not_of a = record { short = ones - a.short; long = ones - a.long }
+not_of a = record { bits = ones - a.bits }
 
--- the lowest n bits of 64
+-- the lowest n bits of 128
 unfoldable pub ones_of : ℕ → ℕ
-ones_of n = elim (leb 64 n) [ true ↦ ones | false ↦ 2 ^ n - 1 ]
+ones_of n = elim (leb 128 n) [ true ↦ ones | false ↦ 2 ^ n - 1 ]
 
 -- it is so for the indents that have at most m bytes with three spaces
 abbrev pub up_to_of : ℕ → Verdict
-up_to_of m = record { short = ones_of (m - 1); long = ones_of (m - 65) }
+up_to_of m = record { bits = ones_of (m - 1) }
 
 -- for the others
 abbrev pub beyond_of : ℕ → Verdict
@@ -84,8 +85,8 @@ beyond_of m = not_of (up_to_of m)
 
 -- the same where a further line follows
 abbrev pub lone_of : Verdict → Bool → Verdict
-lone_of v true = record { short = bit_or v.short 1; long = v.long }
-lone_of v false = record { short = bit_and v.short 0xffff_ffff_ffff_fffe; long = v.long }
+lone_of v true = record { bits = bit_or v.bits 1 }
+lone_of v false = record { bits = bit_and v.bits 0xffff_ffff_ffff_ffff_ffff_ffff_ffff_fffe }
 
 -- at a line's end, by what is told of the next line, which has the first blanks in common with the line behind it
 abbrev pub over_of : Verdict → Bool → ℕ → Verdict
@@ -112,13 +113,6 @@ run stop ok at wrong end (b ∷ c ∷ rest) =
 -- LF or CR
 abbrev pub ends_line : ℕ → Bool
 ends_line b = eqb b 10 || eqb b 13
-
--- the verdict on a run that begins with a backslash: near is told of what stands one byte behind it, far two bytes
-abbrev pub escape_of : (ℕ → Bool) → Bool → Verdict → Verdict → List ℕ → Verdict
-escape_of ok wrong near far [] = near
-escape_of ok wrong near far (b ∷ []) = sure_of wrong
-escape_of ok wrong near far (b ∷ c ∷ rest) =
-    elim (ends_line c) [ true ↦ lone_of near wrong | false ↦ elim (ok c) [ true ↦ far | false ↦ sure_of wrong ] ]
 
 -- the flag says whether a further line follows, for this indent
 abbrev pub Flagged : Bool → List ℕ → List ℕ → Type 0

@@ -17,13 +17,11 @@ impl Walk {
         requires { Walked self.now rest.now }
         ensures { IfSome result (λ k. (k < length front.now) × NoTarget (drop k (front.now ++ rest.now))) }
     {
-        if let [before @ .., b'_', b'_', b' '] = front {
-            return self.free_at_header(before, false, rest);
+        match front {
+            [before @ .., b'_', b'_', b' '] => self.free_at_header(before, false, rest),
+            [before @ .., b'.', b'.', b' ', b'_'] => self.free_at_header(before, true, rest),
+            _ => None,
         }
-        if let [before @ .., b'.', b'.', b' ', b'_'] = front {
-            return self.free_at_header(before, true, rest);
-        }
-        None
     }
 
     // The same of a header between both texts: `.. _` if it is `named`, else `__ `.
@@ -40,22 +38,26 @@ impl Walk {
         if named {
             self.is_unnamed(rest, on, indent).then_some(k)
         } else {
-            self.near.target.judged(on, indent.len()).then_some(k)
+            self.near
+                .target
+                .judged(on.then_some(indent.len()))
+                .then_some(k)
         }
     }
 
-    // Whether the text of a block with that indent, `_` and then `rest`, gives no name with a target; `on` where a further line follows.
+    // Whether the text of a block with that indent, `_` and then `rest`, gives no name with a target; `on` where a further line follows. No
+    // Option of the indent: what is asked of both hangs on the indent.
     fn is_unnamed(&self, rest: &[u8], on: bool, indent: &[u8]) -> bool
         requires walked { Walked self.now rest.now }
         requires blank { Blank indent.now }
         requires on { Flagged on indent.now rest.now }
         ensures { result ≡ true → OfText Unnamed indent.now (0x5F ∷ rest.now) }
     {
-        let k = indent.len();
-        let plain = self.near.plain.judged(on, k);
+        let size = on.then_some(indent.len());
+        let plain = self.near.plain.judged(size);
         match rest {
             [b':', ..] => true,
-            [b'`', ..] => self.far.quoted.judged(on, k) && (plain || self.far.closed.judged(on, k)),
+            [b'`', ..] => self.far.quoted.judged(size) && (plain || self.far.closed.judged(size)),
             _ => plain,
         }
     }
@@ -69,7 +71,9 @@ fn blanks_at_end(s: &[u8]) -> usize
     s.iter().rposition(|b| !is_space(*b)).map_or(0, |k| k + 1)
 }
 
-// Whether a further line of a block with that indent stands at the front of s.
+// Whether a further line of a block with that indent stands at the front of s. By `tag`, as no pattern holds an indent. The parser of blocks asks
+// this too, behind a line's end that it reads first (`block::line_start` of `restructured_text`): two tags, which a public function there would not make
+// plainer.
 fn goes_on(s: &[u8], indent: &[u8]) -> bool
     ensures { result ≡ starts_with (indent.now ++ three) s.now }
 {

@@ -16,6 +16,7 @@ ghost use Rattle.targetless.specs.Targetless.{Marks};
 use crate::walk::Walk;
 
 // Marks places of s at which no target starts with 1, and others with 0; where the marks are fewer than the bytes of s, all with 0.
+#[inline(never)]
 pub fn mark(s: &[u8], marks: &mut [u8])
     ensures { Marks marks.new s.now }
 {

@@ -5,6 +5,10 @@ ghost use Rattle.targetless.specs.Runs.{more, ended, no_label, StateTells, ended
 ghost use Rattle.targetless.specs.Walk.{over_line};
 
 use crate::verdict::Verdict;
+use restructured_text::label::Label;
+
+// A label of so many bytes, and of no fewer, is too long.
+const TOO_LONG: usize = Label::LABEL_LEN_MAX + 1;
 
 // How many bytes a label has up to the backtick that closes it: `kept`, less the bytes of the indent and three spaces `ends` times.
 #[derive(Clone, Copy)]
@@ -127,18 +131,19 @@ impl State {
         }
     }
 
-    // Whether no label stands behind a backtick: none is closed, or it is refused, or it has more than 999 bytes.
+    // Whether no label stands behind a backtick: none is closed, or it is refused, or it is too long.
+    #[inline(never)]
     pub fn no_label(self) -> Verdict
         ensures { (s : List ℕ) → StateTells self s → Tells no_label result s }
     {
         let size = self.size;
-        if size.kept < 1000 {
+        if size.kept < TOO_LONG {
             return self.label;
         }
         if size.ends == 0 {
             return Verdict::EVERYTHING;
         }
-        let long = Verdict::up_to((size.kept - 1000) / size.ends);
+        let long = Verdict::up_to((size.kept - TOO_LONG) / size.ends);
         self.label | long.with_lone(false)
     }
 }

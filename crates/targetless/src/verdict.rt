@@ -9,43 +9,36 @@ ghost use Rattle.targetless.specs.Verdict.{
   up_to_of,
   lone_of,
   over_of,
-  judged_of,
+  judged_in,
 };
 
 use std::ops::{BitAnd, BitOr, Not};
 
 // What is told of the texts that stand from a place on, for each indent that their block may have: where no further line follows the line,
-// it is so if bit 0 of `short` is 1; where one does, for an indent of k bytes if bit k + 1 of `short` is 1, or from 63 bytes on bit k - 63 of
-// `long`. Of 127 bytes and more nothing is told there.
+// it is so if bit 0 is 1; where one does, for an indent of k bytes if bit k + 1 is 1. Of 127 bytes and more nothing is told there.
 #[derive(Clone, Copy)]
 pub struct Verdict {
-    pub short: usize,
-    pub long: usize,
+    pub bits: u128,
 }
 
 impl Verdict {
     // It is so for each indent.
-    pub const EVERYTHING: Verdict = Verdict {
-        short: usize::MAX,
-        long: usize::MAX,
-    };
+    pub const EVERYTHING: Verdict = Verdict { bits: u128::MAX };
 
     // The same where a further line follows.
     pub const FURTHER: Verdict = Verdict {
-        short: usize::MAX - 1,
-        long: usize::MAX,
+        bits: u128::MAX - 1,
     };
 
     // Nothing is told.
-    pub const NOTHING: Verdict = Verdict { short: 0, long: 0 };
+    pub const NOTHING: Verdict = Verdict { bits: 0 };
 
     // It is so for the indents that have at most m bytes with three spaces.
     pub fn up_to(m: usize) -> Verdict
         ensures { result ≡ up_to_of m }
     {
         Verdict {
-            short: ones(m.saturating_sub(1)),
-            long: ones(m.saturating_sub(65)),
+            bits: ones(m.saturating_sub(1)),
         }
     }
 
@@ -53,12 +46,8 @@ impl Verdict {
     pub fn with_lone(self, lone: bool) -> Verdict
         ensures { result ≡ lone_of self lone }
     {
-        let short = if lone {
-            self.short | 1
-        } else {
-            self.short & !1
-        };
-        Verdict { short, ..self }
+        let bits = if lone { self.bits | 1 } else { self.bits & !1 };
+        Verdict { bits }
     }
 
     // At a line's end, by what is told of the next line; `shared` blanks at its front stand at the front of the line behind it too.
@@ -66,7 +55,7 @@ impl Verdict {
         ensures { result ≡ over_of self lone shared }
     {
         let within = Verdict::up_to(shared);
-        let all = if self.judged(false, 0) {
+        let all = if self.judged(None) {
             self | !within
         } else {
             self & within
@@ -74,18 +63,14 @@ impl Verdict {
         all.with_lone(lone)
     }
 
-    // What a verdict says for an indent of k bytes, by whether a further line follows.
-    pub fn judged(self, on: bool, k: usize) -> bool
-        ensures { result ≡ judged_of self on k }
+    // What a verdict says for an indent of k bytes where a further line follows, or where none does.
+    pub fn judged(self, indent: Option<usize>) -> bool
+        ensures { result ≡ judged_in self indent }
     {
-        if !on {
-            self.short & 1 == 1
-        } else if k < 63 {
-            bit(self.short, k + 1)
-        } else if k < 127 {
-            bit(self.long, k - 63)
-        } else {
-            false
+        match indent {
+            None => self.bits & 1 == 1,
+            Some(k @ 0..127) => bit(self.bits, k + 1),
+            Some(_) => false,
         }
     }
 }
@@ -98,8 +83,7 @@ impl BitAnd for Verdict {
 
     fn bitand(self, other: Verdict) -> Verdict {
         Verdict {
-            short: self.short & other.short,
-            long: self.long & other.long,
+            bits: self.bits & other.bits,
         }
     }
 }
@@ -112,8 +96,7 @@ impl BitOr for Verdict {
 
     fn bitor(self, other: Verdict) -> Verdict {
         Verdict {
-            short: self.short | other.short,
-            long: self.long | other.long,
+            bits: self.bits | other.bits,
         }
     }
 }
@@ -125,24 +108,21 @@ impl Not for Verdict {
     ghost not_gives = { λ a r. r ≡ not_of a };
 
     fn not(self) -> Verdict {
-        Verdict {
-            short: !self.short,
-            long: !self.long,
-        }
+        Verdict { bits: !self.bits }
     }
 }
 
 // Whether bit k is 1.
-fn bit(x: usize, k: usize) -> bool
-    requires { k < 64 }
+fn bit(x: u128, k: usize) -> bool
+    requires { k < 128 }
     ensures { result ≡ bit_at x k }
 {
     (x >> k) & 1 == 1
 }
 
 // The lowest n bits, or all.
-fn ones(n: usize) -> usize
+fn ones(n: usize) -> u128
     ensures { result ≡ ones_of n }
 {
-    if n < 64 { (1 << n) - 1 } else { usize::MAX }
+    if n < 128 { (1 << n) - 1 } else { u128::MAX }
 }

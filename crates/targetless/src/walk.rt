@@ -1,17 +1,19 @@
 // What is kept at a place while the text is gone through from its end to its front, over the ends of lines too.
-ghost use Rattle.std.specs.Prelude.{◌≡◌, ◌∷◌, drop};
-ghost use Rattle.rst_bytes.specs.Line.{space0_of};
-ghost use Rattle.targetless.specs.Verdict.{Shared};
+ghost use Rattle.std.specs.Prelude.{◌≡◌, ◌∷◌, false, slice_index, drop};
+ghost use Rattle.rst_bytes.specs.Line.{is_space, space0_of};
+ghost use Rattle.targetless.specs.Verdict.{ends_line, Shared};
 ghost use Rattle.targetless.specs.Walk.{stop_of, Walked};
 
 use crate::state::State;
 use crate::verdict::Verdict;
 use rst_bytes::line::{is_space, space0};
-use rst_bytes::tag::tag;
 
 // The states at a place and at the next one; at a line's end, whether a colon before it ends no name, or the target on the next line is refused;
-// whether a target behind the blanks at this place is refused; and how many bytes the text has from the line behind this one on, 0 if there is none
-// or it is refused. If this line itself is refused, `next` is `None`.
+// whether a target behind the blanks at this place is refused; and how many bytes the text has from the line behind this one on, which is the empty
+// text if there is no such line or it is refused. If this line itself is refused, `next` is `None`.
+//
+// The text behind the place is handed over beside this. As a field, with a ghost field for `Walked`, it would have to be the end of what `step` is
+// handed, which is as much to ask; and each step would build all fields anew, since `..self` is refused with ghost fields.
 #[derive(Clone, Copy)]
 pub struct Walk {
     pub near: State,
@@ -40,63 +42,80 @@ impl Walk {
             return;
         };
         match b {
-            b'\n' => *self = self.at_lf(rest),
-            b'\r' => *self = self.at_cr(rest),
+            b'\n' => self.at_lf(rest),
+            b'\r' => self.at_cr(rest),
+            b'`' | b':' | b'\\' => self.at_stop(v, spaced),
             _ => {
-                let near = self.state_at(*b, rest, self.target_at(v, spaced));
+                let target = self.target_at(v, spaced);
                 self.far = self.near;
-                self.near = near;
+                self.near.target = target;
+                self.near.size = self.near.size.longer(1);
                 self.stop = Verdict::NOTHING;
                 if !is_space(*b) {
-                    self.front = near.target;
+                    self.front = target;
                 }
             }
         }
     }
 
+    // At a byte of a line at which a run may stop.
+    #[inline(never)]
+    fn at_stop(&mut self, v: &[u8], spaced: bool)
+        requires line { ends_line (slice_index v.now 0) ≡ false }
+        requires solid { is_space (slice_index v.now 0) ≡ false }
+        requires walked { Walked self.old (drop 1 v.now) }
+        ensures { Walked self.new v.now }
+    {
+        let [b, rest @ ..] = v else {
+            return;
+        };
+        let near = self.state_at(*b, rest, self.target_at(v, spaced));
+        self.far = self.near;
+        self.near = near;
+        self.stop = Verdict::NOTHING;
+        self.front = near.target;
+    }
+
     // At LF.
-    fn at_lf(&self, rest: &[u8]) -> Walk
-        requires { Walked self.now rest.now }
-        ensures { Walked result (10 ∷ rest.now) }
+    #[inline(never)]
+    fn at_lf(&mut self, rest: &[u8])
+        requires { Walked self.old rest.now }
+        ensures { Walked self.new (10 ∷ rest.now) }
     {
         let Some(next) = self.next else {
-            return Walk {
+            *self = Walk {
                 near: State::LAST,
                 far: self.near,
                 stop: Verdict::EVERYTHING,
                 front: Verdict::NOTHING,
                 next: Some(0),
             };
+            return;
         };
         let shared = shared_blanks(rest, &rest[rest.len() - next..]);
         let near = self.near.over(shared);
-        Walk {
+        *self = Walk {
             near,
             far: self.near,
             stop: line_stop(rest, shared, near.destination, self.front),
             front: near.target,
             next: Some(rest.len()),
-        }
+        };
     }
 
     // At CR.
-    fn at_cr(&self, rest: &[u8]) -> Walk
-        requires { Walked self.now rest.now }
-        ensures { Walked result (13 ∷ rest.now) }
+    #[inline(never)]
+    fn at_cr(&mut self, rest: &[u8])
+        requires { Walked self.old rest.now }
+        ensures { Walked self.new (13 ∷ rest.now) }
     {
-        let line = Walk {
-            far: self.near,
-            ..*self
-        };
-        if tag(rest, b"\n") {
-            return line;
+        self.far = self.near;
+        if let [b'\n', ..] = rest {
+            return;
         }
-        Walk {
-            stop: Verdict::NOTHING,
-            front: Verdict::NOTHING,
-            next: None,
-            ..line
-        }
+        self.stop = Verdict::NOTHING;
+        self.front = Verdict::NOTHING;
+        self.next = None;
     }
 }
 
@@ -117,7 +136,7 @@ fn line_stop(rest: &[u8], shared: usize, destination: Verdict, front: Verdict) -
     ensures { result ≡ stop_of (space0_of rest.now) shared destination front }
 {
     let q = space0(rest);
-    let told = if 3 <= q && !front.judged(q <= shared, q - 3) {
+    let told = if 3 <= q && !front.judged((q <= shared).then_some(q - 3)) {
         destination & Verdict::up_to(q - 1)
     } else {
         destination

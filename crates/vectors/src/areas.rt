@@ -4,25 +4,13 @@ ghost use Rattle.std.specs.Prelude.{◌≡◌, ◌&&◌, length, take, drop, nat
 ghost use Rattle.std.specs.List.{list_all};
 
 // Buffers and areas as long as any that is recorded; no heap.
-#[derive(Drop)]
+#[derive(Drop, Default)]
 pub struct Areas {
     pub first: [u8; 16384],
     pub second: [u8; 16384],
     pub numbers: [u32; 4200],
     pub bytes: [u8; 49300],
     pub output: [u8; 8192],
-}
-
-impl Default for Areas {
-    fn default() -> Areas {
-        Areas {
-            first: [0; 16384],
-            second: [0; 16384],
-            numbers: [0; 4200],
-            bytes: [0; 49300],
-            output: [0; 8192],
-        }
-    }
 }
 
 // Whether each place holds the value.
@@ -36,8 +24,6 @@ pub fn all_are<T: PartialEq>(area: &[T], value: &T) -> bool
 pub fn holds<T: PartialEq>(area: &[T], n: usize, front: &T, behind: &T) -> bool
     ensures { result ≡ (nat_le n (length area.now) && (list_all (λ x. T.eq x front.now) (take n area.now) && list_all (λ x. T.eq x behind.now) (drop n area.now))) }
 {
-    match area.split_at_checked(n) {
-        Some((a, b)) => all_are(a, front) && all_are(b, behind),
-        None => false,
-    }
+    area.split_at_checked(n)
+        .is_some_and(|(a, b)| all_are(a, front) && all_are(b, behind))
 }

@@ -1,7 +1,5 @@
 // documents.bin: answers of the two public calls, one document after the other.
 
-ghost use Rattle.std.specs.Prelude.{◌<◌, length, OnSome};
-
 use crate::areas::Areas;
 use crate::document::DocumentCall;
 use crate::records::Record;
@@ -43,13 +41,13 @@ impl<'a> Record<'a> for Call<'a> {
     fn read(rest: &mut Rest<'a>) -> Option<Self> {
         match rest.one()? {
             1 => DocumentCall::read(rest).map(Call::Document),
-            2 => SingleCall::read(rest).map(Call::Single),
-            _ => None,
+            _ => SingleCall::read(rest).map(Call::Single),
         }
     }
 }
 
-// How many answers of each kind are recorded, and how many agree.
+// How many answers of each kind are recorded, and how many agree. No iterator of documents: the calls of each are read from the same
+// rest.
 pub fn replay(mut rest: Rest, areas: &mut Areas) -> Tallies {
     let mut tallies = Tallies::default();
     while let Some(document) = Document::read(&mut rest) {

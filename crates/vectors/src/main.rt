@@ -44,7 +44,8 @@ fn replay_pieces<R: Files + Print>(rt: &R, buf: &mut [u8]) -> io::Result<()> {
     println!(rt; "pieces: {tally}")
 }
 
-// The parsers' answers; the scratch is as long as any that is recorded.
+// The parsers' answers; the scratch is as long as any that is recorded. Not one function with the pieces': it would be lent the test as
+// a closure, with the kind of record, the file and the word as parameters, which is as long as both.
 fn replay_parsers<R: Files + Print>(rt: &R, buf: &mut [u8]) -> io::Result<()> {
     let (recorded, rest) = load(rt, "parsers.bin", buf)?;
     let mut scratch = [0; 4096];

@@ -37,7 +37,7 @@ impl<'a> Record<'a> for Parser<'a> {
     }
 }
 
-// The part of an area that starts at a place.
+// The part of an area that starts at a place: the answer, which C reads, names it by numbers.
 fn part(area: &[u8], start: usize, len: usize) -> Option<&[u8]> {
     area.get(start..)?.get(..len)
 }

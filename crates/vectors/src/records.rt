@@ -31,6 +31,7 @@ impl<'a, T> From<Rest<'a>> for Records<'a, T> {
     }
 }
 
+// Not `iter::from_fn`, which does not say that it ends.
 impl<'a, T: Record<'a>> Iterator for Records<'a, T> {
     type Item = T;
 

@@ -32,7 +32,7 @@ impl<'a> Rest<'a> {
         Some(*array)
     }
 
-    // A number of one byte.
+    // A number of one byte. Not one function with the next two: `from_be_bytes` is of no trait.
     pub fn one(&mut self) -> Option<u8>
         ensures value { IfSome result (λ v. v ≡ slice_index self.old.left.now 0) }
         ensures rest { OnSome result (IsBehind 1 self.old.left.now self.new.left.now) }

@@ -1,6 +1,7 @@
 // How many answers are recorded, and how many agree.
 
-ghost use Rattle.std.specs.Prelude.{◌≡◌, ◌+◌, min, if◌then◌else◌};
+ghost use Rattle.std.specs.Prelude.{◌≡◌, ◌+◌, min, if◌then◌else◌, Some};
+ghost use Rattle.vectors.specs.Tally.{counts};
 
 use std::fmt;
 
@@ -22,6 +23,8 @@ impl Tally {
 }
 
 impl fmt::Display for Tally {
+    ghost output = { λ t. Some (counts t) };
+
     fn fmt<W: fmt::Write>(&self, f: &mut fmt::Formatter<W>) -> fmt::Result {
         let Tally { recorded, agree } = *self;
         write!(f, "{recorded} recorded, {agree} agree")

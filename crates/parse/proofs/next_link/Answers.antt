@@ -49,15 +49,15 @@ returns-in-Break-clause-scan c =
     ∙ sym l.invariant.scan
     ∙ lent-enough w.s.now w.scratch.now (scan_of w.s.now) c.if-scratch-s.false
 
-pub loop-i-smaller-in-Continue : goal.loop-i-smaller-in-Continue
-loop-i-smaller-in-Continue c =
+pub loop-i-smaller : goal.loop-i-smaller
+loop-i-smaller c =
     let l = c.loop-i in
     let r = c.round in
     let p = step-passes l.input_start c.args.s.now l.i c.loop-i-test.true r.result r.new.scratch r.ensures.step _ c.in-Continue.is in
     omega (arith, p.1, p.2)
 
-pub loop-i-preserved-in-Continue : goal.loop-i-preserved-in-Continue
-loop-i-preserved-in-Continue c =
+pub loop-i-preserved : goal.loop-i-preserved
+loop-i-preserved c =
     let l = c.loop-i in
     let r = c.round in
     let p = step-passes l.input_start c.args.s.now l.i c.loop-i-test.true r.result r.new.scratch r.ensures.step _ c.in-Continue.is in

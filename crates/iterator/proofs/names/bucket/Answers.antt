@@ -1,15 +1,13 @@
--- `names::bucket` meets its contract: the bytes that are left lead from h to the bucket of the name.
+-- `names::bucket` meets its contract: the fold goes by the bytes as the definition does.
 -- Assumes nothing.
-use Rattle.std.proofs.Common.{arith, add-one, drop-cons, drop_of_length-le}
-use Rattle.iterator.specs.Index.{bucket_from}
+use Rattle.std.proofs.Common.{◌+◌, ◌*◌, ◌%◌, ◌∙◌, rules, tests}
+use Rattle.std.proofs.lemmas.Iterator.{YieldsList-from_slice}
+use Rattle.std.proofs.lemmas.Iterator.Consumers.{fold_from_yields_List}
+use Rattle.iterator.proofs.NamesLaws.{bucket-fold}
 use Rattle.iterator.proofs.names.bucket.Goals as goal
 
-pub loop-b-preserved : goal.loop-b-preserved
-unfolding bucket_from
-loop-b-preserved c =
-    let l = c.loop-b in
-    record { small = omega arith; left = rw add-one (rw (drop-cons c.args.name.now l.b-index 0 (omega arith)) at l.invariant.left) }
-
-pub returns-clause-bucket : goal.returns-clause-bucket
-unfolding bucket_from
-returns-clause-bucket c = rw (drop_of_length-le c.args.name.now {i = c.loop-b.b-index} (omega arith)) at c.loop-b.invariant.left
+pub returns : goal.returns
+returns c =
+    let s = c.args.name.now in
+    fold_from_yields_List _ (λ h b. (h * 9 % 256 + b) % 256) 0 _ c.fold.ensures.ran (YieldsList-from_slice s (cc)) (λ h x r q k. search (rules, tests))
+    ∙ bucket-fold s 0

@@ -4,15 +4,15 @@
 use Rattle.iterator.proofs.WalkLaws.{begun, can-try, walked_on, ended}
 use Rattle.iterator.proofs.resolve.resolve_label2label_references.Goals as goal
 
-pub loop-v-init : goal.loop-v-init
-loop-v-init c = begun _ _ _ _ c.requires
+pub loop-walk-init : goal.loop-walk-init
+loop-walk-init c = begun _ _ _ _ c.requires
 
-pub try_alias-v-requires : goal.try_alias-v-requires
-try_alias-v-requires c = can-try _ _ _ _ _ _ c.loop-v.invariant c.loop-v-test.true _ c.wrapped.ensures
+pub try_alias-requires : goal.try_alias-requires
+try_alias-requires c = can-try _ _ _ _ _ _ c.loop-walk.invariant c.loop-walk-test.true _ c.wrap.ensures
 
-pub loop-v-preserved : goal.loop-v-preserved
-loop-v-preserved c =
-    walked_on _ _ _ _ _ _ c.loop-v.invariant c.loop-v-test.true _ c.wrapped.ensures _ _ c.try_alias-v.ensures
+pub loop-walk-preserved : goal.loop-walk-preserved
+loop-walk-preserved c =
+    walked_on _ _ _ _ _ _ c.loop-walk.invariant c.loop-walk-test.true _ c.wrap.ensures _ _ c.try_alias.ensures
 
 pub returns : goal.returns
-returns c = ended _ _ _ _ _ _ c.loop-v.invariant c.loop-v-test.false
+returns c = ended _ _ _ _ _ _ c.loop-walk.invariant c.loop-walk-test.false

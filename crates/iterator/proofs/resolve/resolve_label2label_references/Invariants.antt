@@ -5,8 +5,8 @@ use Rattle.iterator.specs.Inner.{steps_left}
 use Rattle.iterator.proofs.WalkLaws.{Walked}
 use Rattle.iterator.proofs.resolve.resolve_label2label_references.Given as goal
 
-abbrev pub invariant-loop-v : goal.invariant-loop-v
-invariant-loop-v l = Walked l.aliases l.destinations l.initial.numbers l.numbers l.bytes l.v
+abbrev pub invariant-loop-walk : goal.invariant-loop-walk
+invariant-loop-walk l = Walked l.aliases l.destinations l.initial.numbers l.numbers l.bytes l.walk
 
-abbrev pub decreases-loop-v : goal.decreases-loop-v
-decreases-loop-v l = steps_left l.v
+abbrev pub decreases-loop-walk : goal.decreases-loop-walk
+decreases-loop-walk l = steps_left l.walk

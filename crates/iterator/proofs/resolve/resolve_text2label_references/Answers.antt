@@ -10,13 +10,13 @@ use Rattle.iterator.proofs.resolve.resolve_text2label_references.Goals as goal
 
 pub loop-i-init : goal.loop-i-init
 loop-i-init c =
-    references-start _ _ _ _ _ _ c.requires c.index_names.auto.numbers c.index_names.ensures.kept c.index_names.ensures.indexed _ c.default-r.ensures
+    references-start _ _ _ _ _ _ c.args.strings.short c.requires c.index_names.auto.numbers c.index_names.ensures.kept c.index_names.ensures.indexed _ c.default-r.ensures
 
-pub goal_of-requires : goal.goal_of-requires
-goal_of-requires c = can-look _ _ _ _ _ _ _ c.loop-i.invariant.held _ c.link_at-x.ensures c.loop-i-test.true
+pub goal_of-requires-clause-within : goal.goal_of-requires-clause-within
+goal_of-requires-clause-within c = can-look _ _ _ _ _ _ _ c.loop-i.invariant.held _ c.link_at-x.ensures c.loop-i-test.true
 
-pub keep-r-requires : goal.keep-r-requires
-keep-r-requires c =
+pub keep-requires : goal.keep-requires
+keep-requires c =
     can-keep _ _ _ _ _ _ _ c.loop-i.invariant.held _ c.link_at-x.ensures c.loop-i-test.true _ c.in-Some.ensures.within
 
 pub loop-i-preserved : goal.loop-i-preserved
@@ -24,9 +24,9 @@ loop-i-preserved c =
     elim c.match-goal_of.branch [
       | in-Some w ↦
           references-more _ _ _ _ _ _ _ _ c.loop-i.invariant _ c.link_at-x.ensures c.loop-i-test.true _ w.in-Some.ensures.within w.in-Some.ensures.found
-          _ _ (w.r-is ∙ w.keep-r.ensures.links) (w.numbers-is ∙ w.keep-r.ensures.row)
+          _ _ (w.r-is ∙ w.keep.ensures.links) (w.numbers-is ∙ w.keep.ensures.row)
       | in_default w ↦
-          let f = ap (λ (o : Option Span). found_of o c.args.bytes.now) w.in_default.is in
+          let f = ap (λ (o : Option Span). found_of o c.args.strings.bytes.now) w.in_default.is in
           references-dropped _ _ _ _ _ _ _ _ c.loop-i.invariant _ c.link_at-x.ensures c.loop-i-test.true (sym f ∙ c.goal_of.ensures.found)
           _ _ w.r-is w.numbers-is
     ]

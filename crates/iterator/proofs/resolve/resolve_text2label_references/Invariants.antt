@@ -5,4 +5,4 @@ use Rattle.iterator.proofs.ReferenceLaws.{References}
 use Rattle.iterator.proofs.resolve.resolve_text2label_references.Given as goal
 
 abbrev pub invariant-loop-i : goal.invariant-loop-i
-invariant-loop-i l = References l.n l.destinations l.document l.fn.numbers l.numbers l.bytes l.i l.r
+invariant-loop-i l = References l.n l.destinations l.strings.document.now l.fn.numbers l.numbers l.strings.bytes.now l.i l.r

@@ -1,23 +1,19 @@
 -- `barren::is_bracketed` meets its contract: it denies only where a backtick is what `marked` ends before.
 -- Assumes nothing.
-use Rattle.std.proofs.Common.{◌≡◌, ◌+◌, ◌<◌, sym, ap, ◌∙◌, false, length, get_or, drop, length-drop, arith, rules}
-use Rattle.rst_bytes.specs.Escaped.{taking}
-use Rattle.rst_bytes.proofs.EscapedLaws.{taking-le}
+use Rattle.std.proofs.Common.{◌≡◌, ◌<◌, ◌-◌, Option, Some, None, ℕ, refl, sym, ◌∙◌, length, get_or, take, drop, rules}
 use Rattle.rst_bytes.proofs.Lists.{part-from}
+use Rattle.parse.specs.Inner.{NoLink}
 use Rattle.parse.proofs.BarrenLaws.{unbracketed-none}
 use Rattle.parse.proofs.barren.is_bracketed.Goals as goal
 
-pub overflow_add-n : goal.overflow_add-n
-overflow_add-n c =
-    let s = c.args.s.now in
-    let e = ap (taking 0x60 0x3C false 0) (sym (part-from s 1)) ∙ sym c.marked.ensures ∙ c.in-Some.is in
-    omega (arith, taking-le 0x60 0x3C (drop 1 s) _ e, length-drop 1 s)
-
-pub returns-in-Some : goal.returns-in-Some
-returns-in-Some c f =
-    let s = c.args.s.now in
-    let n = c.in-Some.n in
-    let e = ap (taking 0x60 0x3C false 0) (sym (part-from s 1)) ∙ sym c.marked.ensures ∙ c.in-Some.is in
-    let h : n + 1 < length s = search rules in
-    let b : get_or s (n + 1) 0 ≡ 0x60 = search rules in
-    unbracketed-none s n c.requires e h b
+pub returns : goal.returns
+returns c f = go c.marked.result refl
+  where
+    go : (x : Option ℕ) → c.marked.result ≡ x → NoLink c.args.s.now
+    go (Some n) e =
+        let s = c.args.s.now in
+        let r = take (length s - 1) (drop 1 s) in
+        let h : n < length r = search rules in
+        let b : get_or r n 0 ≡ 0x60 = search rules in
+        unbracketed-none s r n c.requires (part-from s 1) (sym c.marked.ensures ∙ e) h b
+    go None e = let a : ⊥ = search rules in absurd a

@@ -1,29 +1,22 @@
--- `forms::is_long` meets its contract. One law of `long_from` at i for each way through the body.
+-- `forms::is_long` meets its contract, by the place of the first LF of the first 129 bytes, or that none is there.
 -- Assumes nothing.
-use Rattle.std.proofs.Common.{sym, ◌∙◌, arith, eq-eqb, ne_eqb}
-use Rattle.parse.proofs.LongLaws.{long-end, long-lf, long-on, long-far}
+use Rattle.std.proofs.Common.{◌≡◌, ◌≤◌, ◌<◌, ℕ, true, false, sym, ◌∙◌, length, get_or, rules}
+use Rattle.parse.specs.Scan.{is_lf}
+use Rattle.parse.proofs.LongLaws.{long-ends, long-goes}
 use Rattle.parse.proofs.forms.is_long.Goals as goal
 
-pub returns-then-b-eq10 : goal.returns-then-b-eq10
-returns-then-b-eq10 c =
+pub returns-in-Some : goal.returns-in-Some
+returns-in-Some c =
     let s = c.args.s.now in
-    let l = c.loop-i in
-    c.is_blank_at.ensures ∙ sym (l.invariant ∙ long-lf s l.i (omega arith) (eq-eqb _ _ c.if-b-eq10.true))
+    let i = c.in-Some.i in
+    let h : i < length s = search rules in
+    let e : i ≤ 128 = search rules in
+    let f : (k : ℕ) → k < i → is_lf (get_or s k 0) ≡ false = search rules in
+    let g : is_lf (get_or s i 0) ≡ true = search rules in
+    c.is_blank_at.ensures ∙ sym (long-ends s i h e f g)
 
-pub returns-then-i-ge-SHORT_LINE_LEN_MAX : goal.returns-then-i-ge-SHORT_LINE_LEN_MAX
-returns-then-i-ge-SHORT_LINE_LEN_MAX c =
+pub returns-in-None : goal.returns-in-None
+returns-in-None c =
     let s = c.args.s.now in
-    let l = c.loop-i in
-    sym (l.invariant ∙ long-far s l.i (omega arith) (ne_eqb _ _ c.if-b-eq10.false) (omega arith))
-
-pub loop-i-preserved : goal.loop-i-preserved
-loop-i-preserved c =
-    let s = c.args.s.now in
-    let l = c.loop-i in
-    l.invariant ∙ long-on s l.i (omega arith) (ne_eqb _ _ c.if-b-eq10.false) (omega arith)
-
-pub returns : goal.returns
-returns c =
-    let s = c.args.s.now in
-    let l = c.loop-i in
-    sym (l.invariant ∙ long-end s l.i (omega arith))
+    let f : (k : ℕ) → k < length s → k ≤ 128 → is_lf (get_or s k 0) ≡ false = search rules in
+    sym (long-goes s f)

@@ -1,5 +1,5 @@
--- `block::join_lines` meets its contract. The loop's invariant: what stands at the front of d with the lines that are left is what
--- stood there first with all lines, and what is left fits. A further line writes a space and its text, and reads more bytes than
+-- `block::join_lines` meets its contract. The loop's invariant: what stands at the front of d with the lines that are left are all
+-- lines, and what is left fits. A further line writes a space and its text, and reads more bytes than
 -- that. The measure is what is left.
 -- Assumes nothing.
 use Prim.Native.Nat.{◌+◌, ◌-◌}

@@ -3,7 +3,6 @@
 -- Assumes nothing.
 use mathlib.Core.Path.{sym, ◌∙◌}
 use Rattle.rst_bytes.proofs.Variants.{ok_or-some, ok_or-none}
-use Rattle.restructured_text.specs.Strings.{strings_of}
 use Rattle.restructured_text.proofs.StringsLaws.{linked-both, linked-second}
 use Rattle.restructured_text.proofs.scratch.transformed.Goals as goal
 

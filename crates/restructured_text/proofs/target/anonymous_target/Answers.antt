@@ -23,29 +23,14 @@ slice_bounds-part-end c = omega (arith, c.requires, anonymous-stands c.args.d.no
 pub returns-then-is_wrong : goal.returns-then-is_wrong
 returns-then-is_wrong c =
     let wrong = ap (λ (v : List ℕ). is_refused (kept_of v)) (sym c.of.ensures) ∙ sym c.is_wrong.ensures ∙ c.if-is_wrong.true in
-    let pair = anonymous-dead c.args.d.now c.args.len c.args.n c.requires _ c.of-raw.ensures _ c.span-span.ensures wrong in
-    record {
-      alias = pair.0;
-      destination = pair.1.0;
-      ends = pair.1.1;
-    }
+    anonymous-dead c.args.d.now c.args.len c.args.n c.requires _ c.of-raw.ensures _ c.span-span.ensures _ wrong
 
 pub returns-in_err-j : goal.returns-in_err-j
 returns-in_err-j c =
     let left = ok_or-none _ _ c.from_residual.result c.ok_or.ensures.value c.in_err-j.was c.from_residual.ensures in
-    let pair = anonymous-refused c.args.d.now c.args.len c.args.n c.requires _ c.of-raw.ensures _ c.span-span.ensures (sym left.0 ∙ c.rst_escaped_link_destination_transform.ensures.answer) in
-    rw left.1 (record {
-      alias = pair.0;
-      destination = pair.1.0;
-      ends = pair.1.1;
-    })
+    rw left.1 (anonymous-refused c.args.d.now c.args.len c.args.n c.requires _ c.of-raw.ensures _ c.span-span.ensures _ (sym left.0 ∙ c.rst_escaped_link_destination_transform.ensures.answer))
 
 pub returns : goal.returns
 returns c =
     let given = sym (ok_or-some _ _ c.ok_or.ensures.value c.in_ok-j.was) ∙ c.rst_escaped_link_destination_transform.ensures.answer in
-    let pair = anonymous-told c.args.d.now c.args.len c.args.n c.requires _ c.of-raw.ensures _ c.span-span.ensures _ _ _ _ c.rst_escaped_link_destination_transform.auto.d given c.rst_escaped_link_destination_transform.ensures.bytes c.defines.ensures in
-    record {
-      alias = pair.0;
-      destination = pair.1.0;
-      ends = pair.1.1;
-    }
+    anonymous-told c.args.d.now c.args.len c.args.n c.requires _ c.of-raw.ensures _ c.span-span.ensures _ _ _ _ c.rst_escaped_link_destination_transform.auto.d given c.rst_escaped_link_destination_transform.ensures.bytes c.defines.ensures

@@ -22,36 +22,20 @@ anonymous_target-requires c =
 
 pub returns-in-Ok : goal.returns-in-Ok
 returns-in-Ok c =
-    let s = c.args in let pair = target-named s.s.now s.scratch.now _ _ c.rst_explicit_markup_block.auto.scratch c.rst_explicit_markup_block.ensures _ _ c.in-Ok.is c.named_target.new.d c.named_target.result (c.named_target.ensures.alias, (c.named_target.ensures.destination, c.named_target.ensures.ends)) in
-    record {
-      alias = pair.0;
-      destination = pair.1.0;
-      ends = pair.1.1;
-    }
+    let s = c.args in
+    target-named s.s.now s.scratch.now _ _ c.rst_explicit_markup_block.auto.scratch c.rst_explicit_markup_block.ensures _ _ c.in-Ok.is c.named_target.new.d c.named_target.result c.named_target.ensures
 
 pub returns-in_ok-len-in-Err-NotFound : goal.returns-in_ok-len-in-Err-NotFound
 returns-in_ok-len-in-Err-NotFound c =
-    let s = c.args in let pair = target-anonymous s.s.now s.scratch.now _ _ c.rst_explicit_markup_block.auto.scratch c.rst_explicit_markup_block.ensures (c.in-Err-NotFound.is ∙ ap Err c.in-Err-NotFound.field-0-is) _ _ c.rst_explicit_markup_block-in-Err-NotFound.ensures _ _ c.in_ok-len-in-Err-NotFound.was c.anonymous_target.new.d c.anonymous_target.result (c.anonymous_target.ensures.alias, (c.anonymous_target.ensures.destination, c.anonymous_target.ensures.ends)) in
-    record {
-      alias = pair.0;
-      destination = pair.1.0;
-      ends = pair.1.1;
-    }
+    let s = c.args in
+    target-anonymous s.s.now s.scratch.now _ _ c.rst_explicit_markup_block.auto.scratch c.rst_explicit_markup_block.ensures (c.in-Err-NotFound.is ∙ ap Err c.in-Err-NotFound.field-0-is) _ _ c.rst_explicit_markup_block-in-Err-NotFound.ensures _ _ c.in_ok-len-in-Err-NotFound.was c.anonymous_target.new.d c.anonymous_target.result c.anonymous_target.ensures
 
 pub returns-in_err-len-in-Err-NotFound : goal.returns-in_err-len-in-Err-NotFound
 returns-in_err-len-in-Err-NotFound c =
-    let s = c.args in let pair = target-neither s.s.now s.scratch.now _ _ c.rst_explicit_markup_block.auto.scratch c.rst_explicit_markup_block.ensures (c.in-Err-NotFound.is ∙ ap Err c.in-Err-NotFound.field-0-is) _ _ c.rst_explicit_markup_block-in-Err-NotFound.ensures c.rst_explicit_markup_block-in-Err-NotFound.new.scratch _ c.in_err-len-in-Err-NotFound.was in
-    rw (err-left c.from_residual.result c.from_residual.ensures) (record {
-      alias = pair.0;
-      destination = pair.1.0;
-      ends = pair.1.1;
-    })
+    let s = c.args in
+    rw (err-left c.from_residual.result c.from_residual.ensures) (target-neither s.s.now s.scratch.now _ _ c.rst_explicit_markup_block.auto.scratch c.rst_explicit_markup_block.ensures (c.in-Err-NotFound.is ∙ ap Err c.in-Err-NotFound.field-0-is) _ _ c.rst_explicit_markup_block-in-Err-NotFound.ensures c.rst_explicit_markup_block-in-Err-NotFound.new.scratch _ c.in_err-len-in-Err-NotFound.was)
 
 pub returns-in-Err-NoRoom : goal.returns-in-Err-NoRoom
 returns-in-Err-NoRoom c =
-    let s = c.args in let pair = target-no-room s.s.now s.scratch.now _ _ c.rst_explicit_markup_block.auto.scratch c.rst_explicit_markup_block.ensures (c.in-Err-NoRoom.is ∙ ap Err c.in-Err-NoRoom.field-0-is) in
-    record {
-      alias = pair.0;
-      destination = pair.1.0;
-      ends = pair.1.1;
-    }
+    let s = c.args in
+    target-no-room s.s.now s.scratch.now _ _ c.rst_explicit_markup_block.auto.scratch c.rst_explicit_markup_block.ensures (c.in-Err-NoRoom.is ∙ ap Err c.in-Err-NoRoom.field-0-is)

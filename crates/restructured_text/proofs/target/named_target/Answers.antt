@@ -2,10 +2,10 @@
 -- the same parts of d, `transformed` gives their strings, and there is no target of the other kind. Where a wrong escape is seen in the target
 -- there is none.
 -- Assumes nothing.
-use mathlib.Core.Path.{sym, ap, subst⁻¹, ◌∙◌}
+use mathlib.Core.Path.{sym, ap, ◌∙◌}
 use native.Mathlib.Omega.{arith}
 use lib.ListN.{take}
-use Rattle.std.proofs.Common.{ℕ, List, Err}
+use Rattle.std.proofs.Common.{ℕ, List}
 use Rattle.rst_bytes.proofs.Lists.{part-from}
 use Rattle.rst_bytes.proofs.Variants.{ok_or-some, ok_or-none, err-left}
 use Rattle.restructured_text.specs.Inner.{is_refused}
@@ -32,43 +32,23 @@ transformed-requires c =
 pub returns-in_err-name : goal.returns-in_err-name
 returns-in_err-name c =
     let left = ok_or-none _ _ c.from_residual.result c.ok_or.ensures.value c.in_err-name.was c.from_residual.ensures in
-    let pair = nameless c.args.d.now c.args.len c.args.n c.requires (sym c.target_name.ensures ∙ left.0) in
-    rw left.1 (record {
-      alias = pair.0;
-      destination = pair.1.0;
-      ends = pair.1.1;
-    })
+    rw left.1 (nameless c.args.d.now c.args.len c.args.n c.requires _ (sym c.target_name.ensures ∙ left.0))
 
 pub returns-then-is_wrong : goal.returns-then-is_wrong
 returns-then-is_wrong c =
     let name = sym c.target_name.ensures ∙ ok_or-some _ _ c.ok_or.ensures.value c.in_ok-name.was in
     let wrong = ap (λ (v : List ℕ). is_refused (kept_of v)) (sym c.of.ensures) ∙ sym c.is_wrong.ensures ∙ c.if-is_wrong.true in
-    let pair = named-dead c.args.d.now c.args.len c.args.n c.requires _ _ name _ (part-from (take c.args.len c.args.d.now) _) _ c.of-raw.ensures _ c.span-span.ensures wrong in
-    record {
-      alias = pair.0;
-      destination = pair.1.0;
-      ends = pair.1.1;
-    }
+    named-dead c.args.d.now c.args.len c.args.n c.requires _ _ name _ (part-from (take c.args.len c.args.d.now) _) _ c.of-raw.ensures _ c.span-span.ensures _ wrong
 
 pub returns-in_err-found : goal.returns-in_err-found
 returns-in_err-found c =
     let name = sym c.target_name.ensures ∙ ok_or-some _ _ c.ok_or.ensures.value c.in_ok-name.was in
     let left = err-left c.from_residual-in_err-found.result c.from_residual-in_err-found.ensures in
     let told = left ∙ told-err (is_alias c.of-raw.result) _ ∙ ap (told_as (is_alias c.of-raw.result)) (sym c.in_err-found.was) in
-    let pair = named-told c.args.d.now c.args.len c.args.n c.requires _ _ name _ (part-from (take c.args.len c.args.d.now) _) _ c.of-raw.ensures _ c.span-span.ensures c.transformed.new.d c.transformed.result _ c.transformed.ensures.strings c.transformed.ensures.ends told in
-    record {
-      alias = pair.0;
-      destination = pair.1.0;
-      ends = pair.1.1;
-    }
+    named-told c.args.d.now c.args.len c.args.n c.requires _ _ name _ (part-from (take c.args.len c.args.d.now) _) _ c.of-raw.ensures _ c.span-span.ensures c.transformed.new.d c.transformed.result _ c.transformed.ensures.strings c.transformed.ensures.ends told
 
 pub returns : goal.returns
 returns c =
     let name = sym c.target_name.ensures ∙ ok_or-some _ _ c.ok_or.ensures.value c.in_ok-name.was in
     let told = c.defines.ensures ∙ ap (told_as (is_alias c.of-raw.result)) (sym c.in_ok-found.was) in
-    let pair = named-told c.args.d.now c.args.len c.args.n c.requires _ _ name _ (part-from (take c.args.len c.args.d.now) _) _ c.of-raw.ensures _ c.span-span.ensures c.transformed.new.d c.transformed.result _ c.transformed.ensures.strings c.transformed.ensures.ends told in
-    record {
-      alias = pair.0;
-      destination = pair.1.0;
-      ends = pair.1.1;
-    }
+    named-told c.args.d.now c.args.len c.args.n c.requires _ _ name _ (part-from (take c.args.len c.args.d.now) _) _ c.of-raw.ensures _ c.span-span.ensures c.transformed.new.d c.transformed.result _ c.transformed.ensures.strings c.transformed.ensures.ends told

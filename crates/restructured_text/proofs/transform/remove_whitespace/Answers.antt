@@ -14,21 +14,13 @@ loop-i-init c = kept-start _ _ c.bare-front.ensures
 pub returns-in_err-e : goal.returns-in_err-e
 returns-in_err-e c =
     let l = c.loop-i in
-    let pair = ends-bad l.invariant (at-alone _ _ _ l.d l.i (omega arith) c.in_err-e.ensures.lookup.3 c.if-b-eq92.true) in
-    record {
-      answer = c.from_residual.ensures ∙ pair.0;
-      bytes = pair.1;
-    }
+    rw c.from_residual.ensures (ends-bad l.invariant (at-alone _ _ _ l.d l.i (omega arith) c.in_err-e.ensures.lookup.3 c.if-b-eq92.true))
 
 pub returns-then-not-is_destination_escapable : goal.returns-then-not-is_destination_escapable
 returns-then-not-is_destination_escapable c =
     let l = c.loop-i in
     let there = c.in_ok-e.ensures.lookup.3 in
-    let pair = ends-bad l.invariant (at-wrong _ _ _ l.d l.i _ there.0 c.if-b-eq92.true (there.1 0) (sym c.is_destination_escapable.ensures ∙ c.if-not-is_destination_escapable.true)) in
-    record {
-      answer = pair.0;
-      bytes = pair.1;
-    }
+    ends-bad l.invariant (at-wrong _ _ _ l.d l.i _ there.0 c.if-b-eq92.true (there.1 0) (sym c.is_destination_escapable.ensures ∙ c.if-not-is_destination_escapable.true))
 
 pub loop-i-preserved-then-b-eq92 : goal.loop-i-preserved-then-b-eq92
 loop-i-preserved-then-b-eq92 c =
@@ -49,8 +41,4 @@ loop-i-preserved c =
 
 pub returns : goal.returns
 returns c =
-    let l = c.loop-i in let pair = ends-well l.invariant (at-end _ _ _ l.d l.i (omega arith)) in
-    record {
-      answer = pair.0;
-      bytes = pair.1;
-    }
+    let l = c.loop-i in ends-well l.invariant (at-end _ _ _ l.d l.i (omega arith))

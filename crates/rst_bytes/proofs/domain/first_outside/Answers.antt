@@ -3,17 +3,13 @@
 -- Assumes nothing.
 use mathlib.Core.Path.{refl, sym, ◌∙◌}
 use native.Mathlib.Omega.{arith}
-use Rattle.std.proofs.Common.{max, rules, tests}
-use Rattle.std.proofs.lemmas.Iterator.{YieldsList-from_slice}
-use Rattle.std.proofs.lemmas.Iterator.Consumers.{fold_from_yields_List}
+use Rattle.std.proofs.Common.{rules}
 use Rattle.rst_bytes.specs.Domain.{any}
 use Rattle.rst_bytes.proofs.DomainLaws.{char-at-within, at-taken, outside-at, outside-nowhere, outside-ascii}
 use Rattle.rst_bytes.proofs.domain.first_outside.Goals as goal
 
-pub returns-then-greatest-lt128 : goal.returns-then-greatest-lt128
-returns-then-greatest-lt128 c =
-    let e = fold_from_yields_List _ max 0 c.fold-greatest.result c.fold-greatest.ensures.ran (YieldsList-from_slice c.args.s.now (cc)) (λ top x r q k. search (rules, tests)) in
-    sym (outside-ascii _ (omega (arith, e, c.if-greatest-lt128.true)))
+pub returns-then-is_ascii : goal.returns-then-is_ascii
+returns-then-is_ascii c = sym (outside-ascii _ (search rules))
 
 pub loop-i-init : goal.loop-i-init
 loop-i-init c = (omega arith, refl)

@@ -9,12 +9,12 @@ returns-then-i-s c =
     let n = bytes-take_while _ inner _ c.count-rest.result c.count-rest.ensures.ran (cc) c.take_while.ensures.closure c.take_while.ensures.done (λ x b q k. search (rules, tests)) in
     sym (line-whole c.args.s.now _ _ c.free_front-front.ensures.within c.free_front-front.ensures.free.0 n c.if-i-s.true)
 
-pub returns-in-Some : goal.returns-in-Some
-returns-in-Some c =
+pub returns : goal.returns
+returns c =
     let n = bytes-take_while _ inner _ c.count-rest.result c.count-rest.ensures.ran (cc) c.take_while.ensures.closure c.take_while.ensures.done (λ x b q k. search (rules, tests)) in
-    sym (line-ends c.args.s.now _ _ c.free_front-front.ensures.within c.free_front-front.ensures.free.0 n c.if-i-s.false _ c.line_ending.ensures ∙ ap (line_by _) c.in-Some.is)
+    sym (line-ends c.args.s.now _ _ c.free_front-front.ensures.within c.free_front-front.ensures.free.0 n c.if-i-s.false _ c.line_ending.ensures ∙ ap (line_by _) c.in_ok-line_ending.was)
 
-pub returns-in-None : goal.returns-in-None
-returns-in-None c =
+pub returns-in_err-line_ending : goal.returns-in_err-line_ending
+returns-in_err-line_ending c =
     let n = bytes-take_while _ inner _ c.count-rest.result c.count-rest.ensures.ran (cc) c.take_while.ensures.closure c.take_while.ensures.done (λ x b q k. search (rules, tests)) in
-    sym (line-ends c.args.s.now _ _ c.free_front-front.ensures.within c.free_front-front.ensures.free.0 n c.if-i-s.false _ c.line_ending.ensures ∙ ap (line_by _) c.in-None.is)
+    rw c.from_residual.ensures (sym (line-ends c.args.s.now _ _ c.free_front-front.ensures.within c.free_front-front.ensures.free.0 n c.if-i-s.false _ c.line_ending.ensures ∙ ap (line_by _) c.in_err-line_ending.was))

@@ -1,38 +1,35 @@
--- `trim_end` meets its contract. The loop's invariant: only blank characters stand from n on. It ends where no blank character
--- ends at n, and then n is the length of the trimmed text.
+-- `trim_end` meets its contract: each round takes a blank character from the end, and where none ends there the rest is the trimmed text.
 -- Assumes nothing.
-use Rattle.std.proofs.Common.{ℕ, ◌-◌, ◌∙◌, sym, ap, arith, take}
-use lib.Seq.{drop-length}
+use Rattle.std.proofs.Common.{rules, arith, sym, ap, ◌∙◌}
+use lib.Seq.{take-length, drop-length}
 use Rattle.rst_bytes.specs.Trim.{blanks}
-use Rattle.rst_bytes.proofs.TrimLaws.{Ends, blanks-none, blanks-back, ends-trim}
-use Rattle.rst_bytes.proofs.trim.trim_end.Goals.{else-loop-n-test, then-loop-n-test+else-blank_at-eq1+else-n-gt1, else-n-gt1-via-then-n-gt1+else-blank_at-eq2, else-n-gt1-via-else-n-gt1}
+use Rattle.rst_bytes.proofs.TrimLaws.{blanks-none, without-one, without-two, trimmed-whole}
+use Rattle.rst_bytes.proofs.trim.trim_end.Goals.{then-text-lt2+in-32-1, then-text-lt2+in_default+else-text-lt9+then-text-lt14, else-text-lt2+in-32-1, else-text-lt2+in_default+else-text-lt9-2+then-text-lt14-2}
 use Rattle.rst_bytes.proofs.trim.trim_end.Goals as goal
 
-pub loop-n-init : goal.loop-n-init
-loop-n-init c = (omega arith, ap blanks (drop-length c.args.s.now) ∙ blanks-none)
+pub loop-text-init : goal.loop-text-init
+loop-text-init c = record { within = omega arith; front = sym (take-length c.args.s.now); after = ap blanks (drop-length c.args.s.now) ∙ blanks-none }
 
-pub loop-n-preserved-then-blank_at-eq1 : goal.loop-n-preserved-then-blank_at-eq1
-loop-n-preserved-then-blank_at-eq1 c =
-    let n = c.loop-n.n in
-    (omega arith, blanks-back _ (n - 1) 1 n (omega arith) (omega arith) (sym c.blank_at.ensures ∙ c.if-blank_at-eq1.true) c.loop-n.invariant.1)
+pub loop-text-preserved-in-9-to-13 : goal.loop-text-preserved-in-9-to-13
+loop-text-preserved-in-9-to-13 c = without-two c.args.s.now c.loop-text.text.now c.loop-text.invariant (omega arith) (omega arith) (search rules)
 
-pub loop-n-preserved : goal.loop-n-preserved
-loop-n-preserved c =
-    let n = c.loop-n.n in
-    (omega arith, blanks-back _ (n - 2) 2 n (omega arith) (omega arith) (sym c.blank_at-then-n-gt1.ensures ∙ c.if-blank_at-eq2.true) c.loop-n.invariant.1)
+pub loop-text-preserved : goal.loop-text-preserved
+loop-text-preserved c = without-one c.args.s.now c.loop-text.text.now c.loop-text.invariant (search rules)
 
-pub returns : goal.returns
-returns c =
-    let s = c.args.s.now in
-    let w : Ends s c.loop-n.n =
-    record {
-      within = c.loop-n.invariant.0;
-      after = c.loop-n.invariant.1;
-      no_one = λ h e. elim c.loop-n-test.branch [ else-loop-n-test w ↦ omega arith | then-loop-n-test+else-blank_at-eq1+else-n-gt1 w ↦ w.if-blank_at-eq1.false (w.blank_at.ensures ∙ e) ];
-      no-two = λ h e. elim c.loop-n-test.branch [
-        | else-loop-n-test w ↦ omega arith
-        | then-loop-n-test+else-blank_at-eq1+else-n-gt1 w ↦
-            elim w.else-n-gt1.branch [ else-n-gt1-via-then-n-gt1+else-blank_at-eq2 v ↦ v.if-blank_at-eq2.false (v.blank_at-then-n-gt1.ensures ∙ e) | else-n-gt1-via-else-n-gt1 v ↦ omega arith ]
-      ];
-    } in
-    ap (λ (m : ℕ). take m s) (sym (ends-trim s _ w))
+pub returns-in_default : goal.returns-in_default
+returns-in_default c = trimmed-whole c.args.s.now c.loop-text.text.now c.loop-text.invariant (λ h d. search rules) (λ h e d. search rules)
+
+pub returns-in_default-2 : goal.returns-in_default-2
+returns-in_default-2 c = trimmed-whole c.args.s.now c.loop-text.text.now c.loop-text.invariant (λ h d. search rules) (λ h e d. search rules)
+
+pub returns-in_default-3 : goal.returns-in_default-3
+returns-in_default-3 c = trimmed-whole c.args.s.now c.loop-text.text.now c.loop-text.invariant (λ h d. search rules) (λ h e d. search rules)
+
+pub returns-in_default-4 : goal.returns-in_default-4
+returns-in_default-4 c = trimmed-whole c.args.s.now c.loop-text.text.now c.loop-text.invariant (λ h d. search rules) (λ h e d. search rules)
+
+pub returns-in_default-5 : goal.returns-in_default-5
+returns-in_default-5 c = trimmed-whole c.args.s.now c.loop-text.text.now c.loop-text.invariant (λ h d. search rules) (λ h e d. search rules)
+
+pub returns-in_default-6 : goal.returns-in_default-6
+returns-in_default-6 c = trimmed-whole c.args.s.now c.loop-text.text.now c.loop-text.invariant (λ h d. search rules) (λ h e d. search rules)

@@ -1,15 +1,11 @@
--- `trim_end` meets its contract. The loop's invariant: only blank characters stand from n on. It ends where no blank character
--- ends at n, and then n is the length of the trimmed text.
+-- Only blank characters stand behind what is left.
 -- Assumes nothing.
-use Prim.Native.Nat.{◌≤◌}
-use mathlib.Core.Path.{◌≡◌}
-use mathlib.Core.Bool.{true}
-use lib.ListN.{length, drop}
-use Rattle.rst_bytes.specs.Trim.{blanks}
+use Rattle.std.proofs.Common.{length}
+use Rattle.rst_bytes.proofs.TrimLaws.{Trimmed}
 use Rattle.rst_bytes.proofs.trim.trim_end.Given as goal
 
-abbrev pub invariant-loop-n : goal.invariant-loop-n
-invariant-loop-n l = (l.n ≤ length l.s) × (blanks (drop l.n l.s) ≡ true)
+abbrev pub invariant-loop-text : goal.invariant-loop-text
+invariant-loop-text l = Trimmed l.s l.text
 
-abbrev pub decreases-loop-n : goal.decreases-loop-n
-decreases-loop-n l = l.n
+abbrev pub decreases-loop-text : goal.decreases-loop-text
+decreases-loop-text l = length l.text

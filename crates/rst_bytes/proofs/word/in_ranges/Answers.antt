@@ -1,36 +1,19 @@
--- `in_ranges` meets its contract. The loop's invariant: every range before lo ends below c, and every range from hi on begins
--- above it; that the table rises carries this over the halves that are left out.
+-- `in_ranges` meets its contract: that the table's ranges are in order and apart makes their ends rise, as the search asks, and gives what
+-- is found its meaning.
 -- Assumes nothing.
-use Rattle.rst_bytes.proofs.TestLaws.{lt-or-le}
-use Rattle.rst_bytes.proofs.WordLaws.{rises, hit, miss}
-use native.Mathlib.Omega.{arith}
-use native.Mathlib.Nat.{lt_of_lt_of_le, lt_of_le_of_lt}
-use mathlib.Core.Logic.{inl, inr, ⊎_elim}
-use mathlib.Core.Path.{sym}
-use Prim.Native.Nat.{◌+◌, ◌-◌, ◌*◌, ◌/◌}
+use Rattle.std.proofs.Common.{◌≡◌, ◌∙◌, sym, ltb, rules}
+use Rattle.std.proofs.lemmas.Option.{gets}
+use Rattle.std.specs.List.{slice_get}
+use Rattle.std.proofs.lemmas.List.Sorted.{IsPartitionPoint-from_clause, IsPartitionedBy-ltb}
+use Rattle.rst_bytes.proofs.WordLaws.{ends-rise, in_first, begins_by}
 use Rattle.rst_bytes.proofs.word.in_ranges.Goals as goal
-
-pub loop-lo-init : goal.loop-lo-init
-loop-lo-init c = (omega arith, omega arith, (λ k h. absurd (omega arith)), (λ k h l. absurd (omega arith)))
-
-pub loop-lo-preserved-then-c-first : goal.loop-lo-preserved-then-c-first
-loop-lo-preserved-then-c-first c =
-    let l = c.loop-lo in
-    let t = c.args.t.now in
-    (omega arith, omega arith, l.invariant.2, (λ k le h. lt_of_lt_of_le c.if-c-first.true (rises t c.requires (2 * (l.lo + (l.hi - l.lo) / 2)) (2 * k) (omega arith) (omega arith))))
-
-pub loop-lo-preserved : goal.loop-lo-preserved
-loop-lo-preserved c =
-    let l = c.loop-lo in
-    let t = c.args.t.now in
-    (omega arith, omega arith, (λ k h. lt_of_le_of_lt (rises t c.requires (2 * k + 1) (2 * (l.lo + (l.hi - l.lo) / 2) + 1) (omega arith) (omega arith)) c.if-last-c.true), l.invariant.3)
-
-pub returns-else-last-c : goal.returns-else-last-c
-returns-else-last-c c =
-    let l = c.loop-lo in
-    sym (hit _ _ (l.lo + (l.hi - l.lo) / 2) (omega arith) c.if-c-first.false c.if-last-c.false)
 
 pub returns : goal.returns
 returns c =
-    let l = c.loop-lo in
-    sym (miss _ _ (λ k h. ⊎_elim (λ lt. inr (l.invariant.2 k lt)) (λ le. inl (l.invariant.3 k (omega arith) h)) (lt-or-le k l.lo)))
+    let t = c.args.t.now in
+    let x = c.args.c in
+    let k = c.partition_point-k.result in
+    let parted = IsPartitionedBy-ltb (λ r. r.1) t x (ends-rise t c.requires) in
+    let found : c.is_some_and.result ≡ begins_by x (slice_get t k) = search (rules, gets) in
+    found
+    ∙ sym (in_first x t c.requires k (IsPartitionPoint-from_clause (λ r. ltb r.1 x) t k c.partition_point-k.ensures.partitioned parted (λ a r q k. search rules)))

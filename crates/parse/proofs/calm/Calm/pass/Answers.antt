@@ -2,5 +2,5 @@
 -- Assumes nothing.
 use Rattle.parse.proofs.calm.Calm.pass.Goals as goal
 
-pub returns-then-i-next : goal.returns-then-i-next
-returns-then-i-next c = c.pass_lines-next.ensures c.args.start
+pub returns-in-Some : goal.returns-in-Some
+returns-in-Some c = c.in-Some.ensures c.args.start

@@ -2,8 +2,7 @@
 -- Assumes nothing.
 use Rattle.std.proofs.Common.{refl, ◌≤◌, ◌<◌, length, inl, arith, rules}
 use Rattle.std.proofs.iter.runs.Sources.{ranges}
-use Rattle.parse.specs.Inner.{Calm}
-use Rattle.parse.proofs.CalmLaws.{calm-skips, lines-skip}
+use Rattle.parse.proofs.CalmLaws.{CalmFrom, calm-skips, lines-pass}
 use Rattle.parse.proofs.calm.Calm.pass_lines.Goals as goal
 
 pub last_line-requires : goal.last_line-requires
@@ -19,11 +18,11 @@ overflow_add-self c =
 pub returns-in-Some : goal.returns-in-Some
 returns-in-Some c =
     let w = c.args in
-    let f : (c.in-Some.k < length w.s.now) × Calm w.i c.in-Some.k w.s.now = search (rules, ranges) in
-    lines-skip w.s.now w.i _ _ (omega arith) f.1 c.last_line.ensures
+    let f : (c.in-Some.k < length w.s.now) × CalmFrom w.i c.in-Some.k w.s.now = search (rules, ranges) in
+    lines-pass w.s.now w.i _ (omega arith) f.1 _ c.last_line.ensures
 
 pub returns-in-None : goal.returns-in-None
-returns-in-None c =
+returns-in-None c start =
     let w = c.args in
-    let f : Calm w.i (length w.s.now) w.s.now = search (rules, ranges) in
-    calm-skips w.s.now (length w.s.now) (omega arith) (inl refl) w.i c.requires f
+    let f : CalmFrom w.i (length w.s.now) w.s.now = search (rules, ranges) in
+    ((λ e. e), calm-skips w.s.now (length w.s.now) (omega arith) (inl refl) w.i c.requires f start)

@@ -2,8 +2,7 @@
 -- Assumes nothing.
 use Rattle.std.proofs.Common.{◌≤◌, length, rules}
 use Rattle.std.proofs.iter.runs.Sources.{ranges}
-use Rattle.parse.specs.Inner.{Calm, Lineless}
-use Rattle.parse.proofs.CalmLaws.{words-skip}
+use Rattle.parse.proofs.CalmLaws.{CalmFrom, LinelessFrom, words-pass}
 use Rattle.parse.proofs.calm.Calm.pass_words.Goals as goal
 
 pub last_word-requires : goal.last_word-requires
@@ -13,5 +12,5 @@ pub returns : goal.returns
 returns c =
     let w = c.args in
     let k = c.unwrap_or-k.result in
-    let f : (k ≤ length w.s.now) × Calm w.i k w.s.now × Lineless w.i k w.s.now = search (rules, ranges) in
-    words-skip w.s.now w.i k _ f.0 f.1 f.2 c.last_word.ensures
+    let f : (k ≤ length w.s.now) × CalmFrom w.i k w.s.now × LinelessFrom w.i k w.s.now = search (rules, ranges) in
+    words-pass w.s.now w.i k f.0 f.1 f.2 _ c.last_word.ensures

@@ -2,7 +2,7 @@
 use Rattle.std.proofs.Common.{ℕ, ◌≤◌, ◌++◌, true, false, length, drop, sym, ◌∙◌}
 use Rattle.targetless.specs.Targetless.{NoTarget}
 use Rattle.targetless.specs.Walk.{header_of}
-use Rattle.targetless.proofs.CandidateLaws.{some-if, indent-blank, free-refused, flagged, free-unnamed, free-dead}
+use Rattle.targetless.proofs.CandidateLaws.{judged-then, some-if, indent-blank, free-refused, flagged, free-unnamed, free-dead}
 use Rattle.targetless.proofs.walk.Walk.free_at_header.Goals as goal
 
 pub returns-in_default : goal.returns-in_default
@@ -28,11 +28,11 @@ returns-then-named c =
 
 pub returns-else-named : goal.returns-else-named
 returns-else-named c =
-    rw (c.then_some-else-named.ensures, c.if-named.false)
+    rw (c.then_some-else-named-2.ensures, c.if-named.false)
     (some-if (λ (k : ℕ). (k ≤ length c.args.before.now) × NoTarget (drop k c.args.before.now ++ (header_of false ++ c.args.rest.now))) c.judged.result c.blanks_at_end-k.result
     (λ r. (
       c.blanks_at_end-k.ensures.within,
       free-dead c.args.before.now c.args.rest.now c.blanks_at_end-k.result c.blanks_at_end-k.ensures.blank c.args.self.now c.requires c.in-Some.next c.in-Some.is c.goes_on-on.result
           (flagged c.args.before.now c.args.rest.now c.blanks_at_end-k.result c.blanks_at_end-k.ensures.blank c.args.self.now c.requires c.in-Some.next c.in-Some.is c.goes_on-on.result c.goes_on-on.ensures)
-          (sym c.judged.ensures ∙ r),
+          (sym (judged-then c.args.self.now.near.target c.goes_on-on.result _ c.then_some-else-named.result c.then_some-else-named.ensures) ∙ sym c.judged.ensures ∙ r),
     )))
