@@ -36,10 +36,15 @@ def lines(pattern):
     return found
 
 
+def comments(pattern):
+    """Comment lines that have the pattern."""
+    return [f"{name(p)}:{at}: {line.strip()}" for p, text in TEXTS.items() for at, line in enumerate(text.split("\n"), 1) if line.lstrip().startswith("//") and re.search(pattern, line)]
+
+
 def functions():
     """Each function: file, name, parameters, result, clauses, body."""
     for path, text in TEXTS.items():
-        for m in re.finditer(r"^( *)(?:pub(?:\([a-z]+\))? )?(?:extern \"C\" )?fn (\w+)(?:<[^(]*>)?\((.*?)\)(?: -> ([^\n{]*))?\n?((?:\s+(?:requires|ensures|where)[^\n]*\n)*)\1 *\{\n(.*?)\n\1\}", text, re.S | re.M):
+        for m in re.finditer(r"^( *)(?:pub(?:\([a-z]+\))? )?(?:extern \"C\" )?fn (\w+)(?:<[^(]*>)?\(([^{}]*?)\)(?: -> ([^\n{]*))?\n?((?:\s+(?:requires|ensures|where)[^\n]*\n)*)\1 *\{\n(.*?)\n\1\}", text, re.S | re.M):
             yield path, m[2], m[3], (m[4] or "").strip(), m[5] or "", m[6]
 
 
@@ -50,7 +55,7 @@ def enums():
     """1a. Enums with a variant that holds nothing beside one that holds something: Option, Result or a chain of both by another name."""
     found = []
     for path, text in TEXTS.items():
-        for m in re.finditer(r"enum (\w+) \{\n(.*?)\n\}", text, re.S):
+        for m in re.finditer(r"enum (\w+)(?:<[^>]*>)? \{\n(.*?)\n\}", text, re.S):
             variants = [v for v in re.findall(r"^\s+(\w+(?:\(.*\))?),", m[2], re.M)]
             bare = [v for v in variants if "(" not in v]
             if 0 < len(bare) < len(variants) or len(variants) == 2 and all("(" in v for v in variants):
@@ -67,8 +72,10 @@ def codes():
 
 
 def flags():
-    """1c. A bool beside the values of a struct; a place that says none by a number of its own (a length, or 0)."""
-    return lines(r"^\s+(pub )?\w+: bool,") + lines(r"//.*\b(else the length of|0 (where|if) (there|the|none))")
+    """1c. A bool beside the values of a struct or among the parameters of a function; a comment that says none by a number of its own (a length, or 0)."""
+    found = lines(r"^\s+(pub )?\w+: bool,")
+    found += [f"{name(p)}:{f}({', '.join(x)})" for p, f, a, _, _, _ in FUNCTIONS if "\n" not in a and (x := re.findall(r"\b\w+: bool", a)) and a.count(": ") + ("self" in a) > 1]
+    return found + comments(r"\b(else the length of|0 (where|if) (there|the|none))")
 
 
 def shape(body):
@@ -108,15 +115,15 @@ def conversions():
 
 
 def long_lists():
-    """5a. Functions of five parameters or more."""
-    return [f"{name(p)}:{f} ({a.count(': ') + len(re.findall(r'&?(?:mut )?self', a))})" for p, f, a, _, _, _ in FUNCTIONS if a.count(": ") >= 5]
+    """5a. Functions of five parameters or more, `self` counted."""
+    return [f"{name(p)}:{f} ({a.count(': ') + len(re.findall(r'&?(?:mut )?self', a))})" for p, f, a, _, _, _ in FUNCTIONS if a.count(": ") + ("self" in a and "self:" not in a) >= 5]
 
 
 def facts():
-    """5b. Clauses that stand in three functions or more of one crate."""
+    """5b. Parts of clauses, of `requires` and of `ensures`, that stand in three functions or more of one crate."""
     count = Counter()
     for path, _, _, _, clauses, _ in FUNCTIONS:
-        for c in re.findall(r"requires \w*\s*\{ (.*) \}", clauses):
+        for c in re.findall(r"(?:requires|ensures) \w*\s*\{ (.*) \}", clauses):
             for part in re.split(r" × ", c):
                 part = part.strip()
                 while part.startswith("(") and not part.endswith(")"):
@@ -135,8 +142,9 @@ def buffers():
 
 
 def switches():
-    """7. Chains of tests of one number that choose what to call."""
-    return [f"{name(p)}:{f} ({n})" for p, f, _, _, _, b in FUNCTIONS if (n := len(re.findall(r"\bif (kind|set|step) == \d", b))) >= 2]
+    """7. Chains of tests, or a `match`, of one number that choose what to call."""
+    found = [f"{name(p)}:{f} ({n})" for p, f, _, _, _, b in FUNCTIONS if (n := len(re.findall(r"\bif (kind|set|step) == \d", b))) >= 2]
+    return found + [f"{name(p)}:{f} (match)" for p, f, _, _, _, b in FUNCTIONS if re.search(r"\bmatch (kind|set|step) \{", b)]
 
 
 show("1a enums like Option or Result", enums())
