@@ -17,17 +17,24 @@ use Rattle.targetless.specs.declared.walk.Walk.{Walk}
 use Rattle.targetless.specs.Targetless.{NoTarget}
 use Rattle.targetless.specs.Verdict.{joined_of, OfText, Blank, ends_line, judged_of, judged_in, Tells, Flagged}
 use Rattle.targetless.specs.Runs.{Unnamed, is_dead, plain_run, quoted_run, closed_run}
-use Rattle.targetless.specs.Walk.{Lined, Walked, header_of}
+use Rattle.targetless.specs.Walk.{ranks_of, Lined, Walked, header_of}
 use Rattle.targetless.proofs.TextLaws.{first-is, line_refused, line_taken, text-byte}
 use Rattle.targetless.proofs.NameLaws.{unnamed-empty, unnamed-plain, unnamed-quoted}
 use Rattle.targetless.proofs.TargetLaws.{dots-refused, dots-unnamed, strokes-refused, strokes-dead}
 use Rattle.targetless.proofs.StateLaws.{first-not}
 
--- A verdict that the flag selects is true of the text.
-told-text :
-    (g : List ℕ → Bool) (v : Verdict) (s indent : List ℕ) (on : Bool) → Tells g v s → Blank indent → Flagged on indent s
-    → judged_of v on (length indent) ≡ true → OfText (λ t. g t ≡ true) indent s
-told-text g v s indent on t b o j n e = t.told indent n b e (ap (λ (x : Bool). judged_of v x (length indent)) (sym (o n e)) ∙ j)
+module _ {ranks : List ℕ} where
+  -- A verdict that the flag selects is true of the text.
+  told-text :
+      (g : List ℕ → Bool) (v : Verdict) (s indent : List ℕ) (on : Bool) → Tells ranks g v s → Blank indent → Flagged on indent s
+      → judged_of ranks v on (length indent) ≡ true → OfText (λ t. g t ≡ true) indent s
+  told-text g v s indent on t b o j n e = t.told indent n b e (ap (λ (x : Bool). judged_of ranks v x (length indent)) (sym (o n e)) ∙ j)
+
+module _ (ranks : List ℕ) where
+  -- the flag and the indent in one
+  pub judged-then : (v : Verdict) (on : Bool) (k : ℕ) (o : Option ℕ) → o ≡ then_some on k → judged_in ranks v o ≡ judged_of ranks v on k
+  judged-then v true k o e = ap (judged_in ranks v) e
+  judged-then v false k o e = ap (judged_in ranks v) e
 
 -- it is the same flag behind a byte of the line
 flagged-behind : (on : Bool) (indent : List ℕ) (b : ℕ) (l : List ℕ) → ends_line b ≡ false → Flagged on indent (b ∷ l) → Flagged on indent l
@@ -37,11 +44,6 @@ flagged-behind on indent b l e o n t = o (suc n) (line_taken b l e n t ∙ ap So
 pub some-if : (P : ℕ → Type 0) (b : Bool) (k : ℕ) → (b ≡ true → P k) → IfSome (then_some b k) P
 some-if P true k f = f refl
 some-if P false k f = tt
-
--- the flag and the indent in one
-pub judged-then : (v : Verdict) (on : Bool) (k : ℕ) (o : Option ℕ) → o ≡ then_some on k → judged_in v o ≡ judged_of v on k
-judged-then v true k o e = ap (judged_in v) e
-judged-then v false k o e = ap (judged_in v) e
 
 -- Names behind `.. _`.
 module _ (indent l : List ℕ) where
@@ -55,7 +57,7 @@ module _ (indent l : List ℕ) where
 
   module _ (on : Bool) (b : Blank indent) (w : Walk) (told : Walked w l) (o : Flagged on indent l) where
     -- a plain one
-    pub told-plain : (0 < length l → get_or l 0 0 ≡ 0x60 → ⊥) → judged_of w.near.plain on (length indent) ≡ true → OfText Unnamed indent (0x5F ∷ l)
+    pub told-plain : (0 < length l → get_or l 0 0 ≡ 0x60 → ⊥) → judged_of (ranks_of w) w.near.plain on (length indent) ≡ true → OfText Unnamed indent (0x5F ∷ l)
     told-plain h j n t =
         let y = text-byte 0x5F l refl indent n t in
         subst⁻¹ Unnamed y.2
@@ -64,8 +66,8 @@ module _ (indent l : List ℕ) where
 
     -- one in backticks, where a plain one has no target either, or where it is closed
     pub told-quoted :
-        0 < length l → get_or l 0 0 ≡ 0x60 → judged_of w.far.quoted on (length indent) ≡ true
-        → (judged_of w.near.plain on (length indent) ≡ true) ⊎ (judged_of w.far.closed on (length indent) ≡ true) → OfText Unnamed indent (0x5F ∷ l)
+        0 < length l → get_or l 0 0 ≡ 0x60 → judged_of (ranks_of w) w.far.quoted on (length indent) ≡ true
+        → (judged_of (ranks_of w) w.near.plain on (length indent) ≡ true) ⊎ (judged_of (ranks_of w) w.far.closed on (length indent) ≡ true) → OfText Unnamed indent (0x5F ∷ l)
     told-quoted h e j d n t =
         let is = first-is l 0x60 h e in
         let y = text-byte 0x5F l refl indent n t in
@@ -108,7 +110,7 @@ module _ (before l : List ℕ) (k : ℕ) (blank : Blank (drop k before)) (w : Wa
         subst (λ (i : List ℕ). NoTarget (i ++ (header_of true ++ l))) (part-from before k) (dots-unnamed indent (0x5F ∷ l) indent-blank _ t (u _ t))
 
     -- an anonymous target
-    pub free-dead : (on : Bool) → Flagged on indent l → judged_of w.near.target on (length indent) ≡ true → NoTarget (drop k before ++ (header_of false ++ l))
+    pub free-dead : (on : Bool) → Flagged on indent l → judged_of (ranks_of w) w.near.target on (length indent) ≡ true → NoTarget (drop k before ++ (header_of false ++ l))
     free-dead on o j =
         subst (λ (i : List ℕ). NoTarget (i ++ (header_of false ++ l))) (part-from before k)
         (strokes-dead indent l indent-blank line.0.0 line.0.1 (told-text is_dead w.near.target l indent on told.near.target indent-blank o j line.0.0 line.0.1))

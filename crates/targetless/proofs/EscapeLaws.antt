@@ -31,33 +31,34 @@ destination-name c e =
 name-destination : (c : ℕ) → is_escapable c ≡ false → is_destination_escapable c ≡ false
 name-destination c e = false_from_ne_true (is_destination_escapable c) (λ f. true≢false (sym (destination-name c f) ∙ e))
 
--- no label begins there
-slash-dead : (v : Verdict) (l : List ℕ) → Tells destination_run v (0x5C ∷ l) → Tells is_dead v (0x5C ∷ l)
-unfolding is_ascii_word
-slash-dead v l t = target-other l v 0x5C refl (λ e. omega (arith, e)) (word-other 0x5C l (omega arith) refl) t
+module _ {ranks : List ℕ} where
+  -- no label begins there
+  slash-dead : (v : Verdict) (l : List ℕ) → Tells ranks destination_run v (0x5C ∷ l) → Tells ranks is_dead v (0x5C ∷ l)
+  unfolding is_ascii_word
+  slash-dead v l t = target-other l v 0x5C refl (λ e. omega (arith, e)) (word-other 0x5C l (omega arith) refl) t
 
--- before a line's end
-ended-tells : (near : State) (c : ℕ) (l : List ℕ) → ends_line c ≡ true → StateTells near (c ∷ l) → StateTells (ended_of near (more near.size 1)) (0x5C ∷ c ∷ l)
-unfolding is_escapable is_destination_escapable
-ended-tells near c l e p =
-    let d = escape-line 10 (escapable_of false) (λ t. false) true false refl (λ x. omega (arith, x)) near.destination c l e p.destination in
-    record {
-      destination = d;
-      label = escape-line 0x60 (escapable_of false) label_stop true true refl (λ x. omega (arith, x)) near.label c l e p.label;
-      plain = escape-line 0x3A (escapable_of true) plain_stop true true refl (λ x. omega (arith, x)) near.plain c l e p.plain;
-      quoted = escape-line 0x60 (escapable_of true) quoted_stop true true refl (λ x. omega (arith, x)) near.quoted c l e p.quoted;
-      closed = escape-line 0x60 (escapable_of true) closed_stop false false refl (λ x. omega (arith, x)) near.closed c l e p.closed;
-      target = slash-dead (lone_of near.destination true) (c ∷ l) d;
-      size = sized-line near.size c l e p.size;
-    }
+  -- before a line's end
+  ended-tells : (near : State) (c : ℕ) (l : List ℕ) → ends_line c ≡ true → StateTells ranks near (c ∷ l) → StateTells ranks (ended_of near (more near.size 1)) (0x5C ∷ c ∷ l)
+  unfolding is_escapable is_destination_escapable
+  ended-tells near c l e p =
+      let d = escape-line 10 (escapable_of false) (λ t. false) true false refl (λ x. omega (arith, x)) near.destination c l e p.destination in
+      record {
+        destination = d;
+        label = escape-line 0x60 (escapable_of false) label_stop true true refl (λ x. omega (arith, x)) near.label c l e p.label;
+        plain = escape-line 0x3A (escapable_of true) plain_stop true true refl (λ x. omega (arith, x)) near.plain c l e p.plain;
+        quoted = escape-line 0x60 (escapable_of true) quoted_stop true true refl (λ x. omega (arith, x)) near.quoted c l e p.quoted;
+        closed = escape-line 0x60 (escapable_of true) closed_stop false false refl (λ x. omega (arith, x)) near.closed c l e p.closed;
+        target = slash-dead (lone_of near.destination true) (c ∷ l) d;
+        size = sized-line near.size c l e p.size;
+      }
 
-module _ (c : ℕ) (l : List ℕ) (e : ends_line c ≡ false) where
+module _ {ranks : List ℕ} (c : ℕ) (l : List ℕ) (e : ends_line c ≡ false) where
   -- before a byte that it takes along in names, and in destinations too
-  paired-tells : (far : State) → is_escapable c ≡ true → StateTells far l → StateTells (paired_of far (is_destination_escapable c) (more far.size 2)) (0x5C ∷ c ∷ l)
+  paired-tells : (far : State) → is_escapable c ≡ true → StateTells ranks far l → StateTells ranks (paired_of far (is_destination_escapable c) (more far.size 2)) (0x5C ∷ c ∷ l)
   unfolding is_escapable is_destination_escapable
   paired-tells far g p = go (is_destination_escapable c) refl
     where
-      go : (x : Bool) → is_destination_escapable c ≡ x → StateTells (paired_of far x (more far.size 2)) (0x5C ∷ c ∷ l)
+      go : (x : Bool) → is_destination_escapable c ≡ x → StateTells ranks (paired_of far x (more far.size 2)) (0x5C ∷ c ∷ l)
       go true k =
           let d = escape-pair 10 (escapable_of false) (λ t. false) true false refl (λ x. omega (arith, x)) c l e far.destination k p.destination in
           record {
@@ -86,41 +87,43 @@ module _ (l : List ℕ) (h : 0 < length l) where
   behind : l ≡ get_or l 0 0 ∷ drop 1 l
   behind = first-is l (get_or l 0 0) h refl
 
-  pub state-ended : (near : State) → ends_line (get_or l 0 0) ≡ true → StateTells near l → StateTells (ended_of near (more near.size 1)) (0x5C ∷ l)
-  state-ended near e p =
-      subst⁻¹ (λ (r : List ℕ). StateTells (ended_of near (more near.size 1)) (0x5C ∷ r)) behind (ended-tells near (get_or l 0 0) (drop 1 l) e (subst (StateTells near) behind p))
+  module _ {ranks : List ℕ} where
+    pub state-ended : (near : State) → ends_line (get_or l 0 0) ≡ true → StateTells ranks near l → StateTells ranks (ended_of near (more near.size 1)) (0x5C ∷ l)
+    state-ended near e p =
+        subst⁻¹ (λ (r : List ℕ). StateTells ranks (ended_of near (more near.size 1)) (0x5C ∷ r)) behind (ended-tells near (get_or l 0 0) (drop 1 l) e (subst (StateTells ranks near) behind p))
 
-  pub state-paired :
-      (far : State) → ends_line (get_or l 0 0) ≡ false → is_escapable (get_or l 0 0) ≡ true → StateTells far (drop 1 l)
-      → StateTells (paired_of far (is_destination_escapable (get_or l 0 0)) (more far.size 2)) (0x5C ∷ l)
-  state-paired far e g p =
-      subst⁻¹ (λ (r : List ℕ). StateTells (paired_of far (is_destination_escapable (get_or l 0 0)) (more far.size 2)) (0x5C ∷ r)) behind (paired-tells (get_or l 0 0) (drop 1 l) e far g p)
+    pub state-paired :
+        (far : State) → ends_line (get_or l 0 0) ≡ false → is_escapable (get_or l 0 0) ≡ true → StateTells ranks far (drop 1 l)
+        → StateTells ranks (paired_of far (is_destination_escapable (get_or l 0 0)) (more far.size 2)) (0x5C ∷ l)
+    state-paired far e g p =
+        subst⁻¹ (λ (r : List ℕ). StateTells ranks (paired_of far (is_destination_escapable (get_or l 0 0)) (more far.size 2)) (0x5C ∷ r)) behind (paired-tells (get_or l 0 0) (drop 1 l) e far g p)
 
--- as the last byte, or before another one
-pub state-wrong : (l : List ℕ) → (0 < length l → (ends_line (get_or l 0 0) ≡ false) × (is_escapable (get_or l 0 0) ≡ false)) → StateTells wrong_of (0x5C ∷ l)
-unfolding is_escapable is_destination_escapable
-state-wrong [] h =
-    let d = escape-last 10 (escapable_of false) (λ t. false) true false refl (λ x. omega (arith, x)) in
-    record {
-      destination = d;
-      label = escape-last 0x60 (escapable_of false) label_stop true true refl (λ x. omega (arith, x));
-      plain = escape-last 0x3A (escapable_of true) plain_stop true true refl (λ x. omega (arith, x));
-      quoted = escape-last 0x60 (escapable_of true) quoted_stop true true refl (λ x. omega (arith, x));
-      closed = escape-last 0x60 (escapable_of true) closed_stop false false refl (λ x. omega (arith, x));
-      target = slash-dead everything [] d;
-      size = sized-last;
-    }
-state-wrong (c ∷ l) h =
-    let w = h (omega arith) in
-    let e = w.0 in
-    let k = name-destination c w.1 in
-    let d = escape-wrong 10 (escapable_of false) (λ t. false) true false refl (λ x. omega (arith, x)) c l e k in
-    record {
-      destination = d;
-      label = escape-wrong 0x60 (escapable_of false) label_stop true true refl (λ x. omega (arith, x)) c l e k;
-      plain = escape-wrong 0x3A (escapable_of true) plain_stop true true refl (λ x. omega (arith, x)) c l e w.1;
-      quoted = escape-wrong 0x60 (escapable_of true) quoted_stop true true refl (λ x. omega (arith, x)) c l e w.1;
-      closed = escape-wrong 0x60 (escapable_of true) closed_stop false false refl (λ x. omega (arith, x)) c l e w.1;
-      target = slash-dead everything (c ∷ l) d;
-      size = sized-wrong c l e w.1;
-    }
+module _ {ranks : List ℕ} where
+  -- as the last byte, or before another one
+  pub state-wrong : (l : List ℕ) → (0 < length l → (ends_line (get_or l 0 0) ≡ false) × (is_escapable (get_or l 0 0) ≡ false)) → StateTells ranks wrong_of (0x5C ∷ l)
+  unfolding is_escapable is_destination_escapable
+  state-wrong [] h =
+      let d = escape-last 10 (escapable_of false) (λ t. false) true false refl (λ x. omega (arith, x)) in
+      record {
+        destination = d;
+        label = escape-last 0x60 (escapable_of false) label_stop true true refl (λ x. omega (arith, x));
+        plain = escape-last 0x3A (escapable_of true) plain_stop true true refl (λ x. omega (arith, x));
+        quoted = escape-last 0x60 (escapable_of true) quoted_stop true true refl (λ x. omega (arith, x));
+        closed = escape-last 0x60 (escapable_of true) closed_stop false false refl (λ x. omega (arith, x));
+        target = slash-dead everything [] d;
+        size = sized-last;
+      }
+  state-wrong (c ∷ l) h =
+      let w = h (omega arith) in
+      let e = w.0 in
+      let k = name-destination c w.1 in
+      let d = escape-wrong 10 (escapable_of false) (λ t. false) true false refl (λ x. omega (arith, x)) c l e k in
+      record {
+        destination = d;
+        label = escape-wrong 0x60 (escapable_of false) label_stop true true refl (λ x. omega (arith, x)) c l e k;
+        plain = escape-wrong 0x3A (escapable_of true) plain_stop true true refl (λ x. omega (arith, x)) c l e w.1;
+        quoted = escape-wrong 0x60 (escapable_of true) quoted_stop true true refl (λ x. omega (arith, x)) c l e w.1;
+        closed = escape-wrong 0x60 (escapable_of true) closed_stop false false refl (λ x. omega (arith, x)) c l e w.1;
+        target = slash-dead everything (c ∷ l) d;
+        size = sized-wrong c l e w.1;
+      }

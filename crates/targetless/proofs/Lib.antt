@@ -3,6 +3,7 @@
 pub mod BitLaws
 pub mod TextLaws
 pub mod BlankLaws
+pub mod IndentsLaws
 pub mod VerdictLaws
 pub mod RunLaws
 pub mod SizeLaws

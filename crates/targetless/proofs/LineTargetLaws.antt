@@ -15,6 +15,7 @@ use Rattle.rst_bytes.proofs.TagLaws.{starts-le}
 use Rattle.rst_bytes.proofs.WordLaws.{word-ended}
 use Rattle.restructured_text.specs.Block.{three, further_of}
 use Rattle.targetless.specs.declared.verdict.Verdict.{Verdict}
+use Rattle.targetless.specs.Indents.{Rising}
 use Rattle.targetless.specs.Verdict.{joined_of, is_further, Blank, ends_line, judged_of, both_of, up_to_of, Tells, Follows, Shared}
 use Rattle.targetless.specs.Runs.{escapable_of, word_labelled, is_dead, destination_run, line_stop}
 use Rattle.targetless.specs.Walk.{stop_of}
@@ -72,8 +73,9 @@ line-none : (t : List ℕ) → t ≡ [] → line_stop t ≡ true
 unfolding starts_with
 line-none t e = ap line_stop e
 
-pub line-lone : (c : ℕ) (l : List ℕ) → ends_line c ≡ true → ((indent : List ℕ) → Blank indent → further_of indent (c ∷ l) ≡ None) → (v : Verdict) → Tells line_stop v (c ∷ l)
-line-lone c l e f v = record { told = λ indent n b t p. line-none (joined_of indent n (c ∷ l)) (text-alone indent c l n e t (f indent b)) }
+module _ {ranks : List ℕ} where
+  pub line-lone : (c : ℕ) (l : List ℕ) → ends_line c ≡ true → ((indent : List ℕ) → Blank indent → further_of indent (c ∷ l) ≡ None) → (v : Verdict) → Tells ranks line_stop v (c ∷ l)
+  line-lone c l e f v = record { told = λ indent n b t p. line-none (joined_of indent n (c ∷ l)) (text-alone indent c l n e t (f indent b)) }
 
 -- LF behind a colon. The next line, which has m bytes, begins with q blanks; k of them stand at the front of the line behind it too.
 module _ (l : List ℕ) (m : ℕ) (line : not_line_ending_of l ≡ Some m) (next : List ℕ) (k : ℕ) (follows : Follows next l) (shared : Shared k l next) (v front : Verdict) where
@@ -101,46 +103,48 @@ module _ (l : List ℕ) (m : ℕ) (line : not_line_ending_of l ≡ Some m) (next
         (λ y. shared-more indent l next k shared (omega (arith, y, g)) starts ∙ sym (le-leb q k y))
         (lt-or-le k q)
 
-    front-dead : length indent + 3 ≡ q → Tells is_dead front (drop q l) → judged_of front (leb q k) (q - 3) ≡ true → is_dead text ≡ true
-    front-dead g t j =
-        let z : q - 3 ≡ length indent = omega (arith, g) in
-        (subst⁻¹ (λ (x : ℕ). Tells is_dead front (drop x l)) g t).told indent n blank here
-        (ap (λ (x : Bool). judged_of front x (length indent)) (front-on g) ∙ ap (λ (x : ℕ). judged_of front (leb q k) x) (sym z) ∙ j)
+    module _ {ranks : List ℕ} where
+      front-dead : length indent + 3 ≡ q → Tells ranks is_dead front (drop q l) → judged_of ranks front (leb q k) (q - 3) ≡ true → is_dead text ≡ true
+      front-dead g t j =
+          let z : q - 3 ≡ length indent = omega (arith, g) in
+          (subst⁻¹ (λ (x : ℕ). Tells ranks is_dead front (drop x l)) g t).told indent n blank here
+          (ap (λ (x : Bool). judged_of ranks front x (length indent)) (front-on g) ∙ ap (λ (x : ℕ). judged_of ranks front (leb q k) x) (sym z) ∙ j)
 
-    stop-dead :
-        length indent + 3 ≤ q → Tells is_dead front (drop q l) → (judged_of v true (length indent) ≡ true → destination_run text ≡ true)
-        → judged_of (stop_of q k v front) true (length indent) ≡ true → is_dead text ≡ true
-    stop-dead g t d =
-        by-test (λ (x : Verdict). judged_of x true (length indent) ≡ true → is_dead text ≡ true) (leb 3 q) _ _
-        (λ a. by-test (λ (x : Verdict). judged_of x true (length indent) ≡ true → is_dead text ≡ true) (judged_of front (leb q k) (q - 3)) _ _
-        (λ b j.
-        let w = d (judged-lone v true (length indent) j) in
-        ⊎_elim (λ y. free-dead y w) (λ y. front-dead (omega (arith, g, y)) t b) (lt-or-le (length indent + 3) q))
-        (λ b j.
-        let w = judged-both v (up_to_of (q - 1)) true (length indent) (judged-lone (both_of v (up_to_of (q - 1))) true (length indent) j) in
-        free-dead (omega (arith, g, judged-up-to (q - 1) (length indent) w.1)) (d w.0)))
-        (λ a. absurd (omega (arith, g, leb-false 3 q a)))
+      stop-dead :
+          Rising ranks → length indent + 3 ≤ q → Tells ranks is_dead front (drop q l) → (judged_of ranks v true (length indent) ≡ true → destination_run text ≡ true)
+          → judged_of ranks (stop_of ranks q k v front) true (length indent) ≡ true → is_dead text ≡ true
+      stop-dead rising g t d =
+          by-test (λ (x : Verdict). judged_of ranks x true (length indent) ≡ true → is_dead text ≡ true) (leb 3 q) _ _
+          (λ a. by-test (λ (x : Verdict). judged_of ranks x true (length indent) ≡ true → is_dead text ≡ true) (judged_of ranks front (leb q k) (q - 3)) _ _
+          (λ b j.
+          let w = d (judged-lone ranks v true (length indent) j) in
+          ⊎_elim (λ y. free-dead y w) (λ y. front-dead (omega (arith, g, y)) t b) (lt-or-le (length indent + 3) q))
+          (λ b j.
+          let w = judged-both ranks v (up_to_of ranks (q - 1)) true (length indent) (judged-lone ranks (both_of v (up_to_of ranks (q - 1))) true (length indent) j) in
+          free-dead (omega (arith, g, judged-up-to ranks rising (q - 1) (length indent) w.1)) (d w.0)))
+          (λ a. absurd (omega (arith, g, leb-false 3 q a)))
 
-  pub line-front : Tells destination_run v (10 ∷ l) → Tells is_dead front (drop q l) → Tells line_stop (stop_of q k v front) (10 ∷ l)
-  line-front d t = record { told = λ indent n blank here. go indent n blank here (starts_with (indent ++ three) l) refl }
-    where
-      go :
-          (indent : List ℕ) (n : ℕ) → Blank indent → not_line_ending_of (10 ∷ l) ≡ Some n → (x : Bool) → starts_with (indent ++ three) l ≡ x → judged_of (stop_of q k v front) (is_further (further_of indent (drop n (10 ∷ l)))) (length indent) ≡ true
-          → line_stop (joined_of indent n (10 ∷ l)) ≡ true
-      go indent n blank here true e p =
-          let zero_is : n ≡ 0 = line-stops 10 l n refl here in
-          let w = lf-taken indent l blank m line e in
-          let z : length (indent ++ three) ≡ length indent + 3 = length-append indent three in
-          let y : drop (length (indent ++ three)) l ≡ drop (length indent + 3) l = ap (λ (x : ℕ). drop x l) z in
-          let r = joined_of indent w.0 (drop (length indent + 3) l) in
-          let u : joined_of indent n (10 ∷ l) ≡ 0x20 ∷ r =
-          ap (λ (x : ℕ). joined_of indent x (10 ∷ l)) zero_is
-          ∙ text-further indent (10 ∷ l) (suc (length (indent ++ three))) w.0 w.2 ∙ ap (λ (x : List ℕ). 0x20 ∷ joined_of indent w.0 x) y in
-          let on : is_further (further_of indent (drop n (10 ∷ l))) ≡ true = ap is_further (ap (λ (x : ℕ). further_of indent (drop x (10 ∷ l))) zero_is ∙ w.2) in
-          ap line_stop u
-          ∙ spaced r
-          (stop-dead indent blank w.0 e (ap (λ (x : List ℕ). not_line_ending_of x) (sym y) ∙ w.1)
-          (omega (arith, z, blanks-long (indent ++ three) l (blank-three indent blank) e)) t
-          (λ j. sym (ap destination_run u ∙ run-plain 10 (escapable_of false) (λ x. false) true false 0x20 r refl refl) ∙ d.told indent n blank here (ap (λ (x : Bool). judged_of v x (length indent)) on ∙ j))
-          (sym (ap (λ (x : Bool). judged_of (stop_of q k v front) x (length indent)) on) ∙ p))
-      go indent n blank here false e p = line-none (joined_of indent n (10 ∷ l)) (text-alone indent 10 l n refl here (further-lf-other indent l e))
+  module _ {ranks : List ℕ} where
+    pub line-front : Rising ranks → Tells ranks destination_run v (10 ∷ l) → Tells ranks is_dead front (drop q l) → Tells ranks line_stop (stop_of ranks q k v front) (10 ∷ l)
+    line-front rising d t = record { told = λ indent n blank here. go indent n blank here (starts_with (indent ++ three) l) refl }
+      where
+        go :
+            (indent : List ℕ) (n : ℕ) → Blank indent → not_line_ending_of (10 ∷ l) ≡ Some n → (x : Bool) → starts_with (indent ++ three) l ≡ x → judged_of ranks (stop_of ranks q k v front) (is_further (further_of indent (drop n (10 ∷ l)))) (length indent) ≡ true
+            → line_stop (joined_of indent n (10 ∷ l)) ≡ true
+        go indent n blank here true e p =
+            let zero_is : n ≡ 0 = line-stops 10 l n refl here in
+            let w = lf-taken indent l blank m line e in
+            let z : length (indent ++ three) ≡ length indent + 3 = length-append indent three in
+            let y : drop (length (indent ++ three)) l ≡ drop (length indent + 3) l = ap (λ (x : ℕ). drop x l) z in
+            let r = joined_of indent w.0 (drop (length indent + 3) l) in
+            let u : joined_of indent n (10 ∷ l) ≡ 0x20 ∷ r =
+            ap (λ (x : ℕ). joined_of indent x (10 ∷ l)) zero_is
+            ∙ text-further indent (10 ∷ l) (suc (length (indent ++ three))) w.0 w.2 ∙ ap (λ (x : List ℕ). 0x20 ∷ joined_of indent w.0 x) y in
+            let on : is_further (further_of indent (drop n (10 ∷ l))) ≡ true = ap is_further (ap (λ (x : ℕ). further_of indent (drop x (10 ∷ l))) zero_is ∙ w.2) in
+            ap line_stop u
+            ∙ spaced r
+            (stop-dead indent blank w.0 e (ap (λ (x : List ℕ). not_line_ending_of x) (sym y) ∙ w.1) rising
+            (omega (arith, z, blanks-long (indent ++ three) l (blank-three indent blank) e)) t
+            (λ j. sym (ap destination_run u ∙ run-plain 10 (escapable_of false) (λ x. false) true false 0x20 r refl refl) ∙ d.told indent n blank here (ap (λ (x : Bool). judged_of ranks v x (length indent)) on ∙ j))
+            (sym (ap (λ (x : Bool). judged_of ranks (stop_of ranks q k v front) x (length indent)) on) ∙ p))
+        go indent n blank here false e p = line-none (joined_of indent n (10 ∷ l)) (text-alone indent 10 l n refl here (further-lf-other indent l e))

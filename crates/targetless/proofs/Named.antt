@@ -47,9 +47,10 @@ bit_shifted a n k h e =
     ap (λ (m : ℕ). a * 2 ^ m / 2 ^ k) z ∙ ap (λ (m : ℕ). a * m / 2 ^ k) (pow-add 2 (suc d) k) ∙ ap (λ (m : ℕ). m / 2 ^ k) (sym (mul_assoc a (2 ^ suc d) (2 ^ k))) ∙ shl-shr (a * 2 ^ suc d) k in
     omega (arith, sym (ap (λ (y : ℕ). y % 2) q ∙ shifted_even a d) ∙ bit_is (a * 2 ^ n) k e)
 
--- nothing is told
-pub tells_none : (s : List ℕ) (i : ℕ) (g : List ℕ → Bool) → Tells g nothing (drop i s)
-tells_none s i g = tells-nothing g (drop i s)
+module _ {ranks : List ℕ} where
+  -- nothing is told
+  pub tells_none : (s : List ℕ) (i : ℕ) (g : List ℕ → Bool) → Tells ranks g nothing (drop i s)
+  tells_none s i g = tells-nothing g (drop i s)
 
 -- with a byte that is no space a text begins only if the line does
 pub first_byte_lem :
@@ -61,14 +62,15 @@ first_byte_lem indent s i n c f e k = first-not c (drop i s) f (other (drop i s)
     other [] q h z = absurd (omega arith)
     other (b ∷ l) q h z = absurd (true≢false (sym (starts-one c b l ∙ eq-eqb b c z) ∙ q))
 
--- behind a colon stands another byte of the line than a space
-pub plain_other :
-    (s : List ℕ) (i : ℕ) → i < length s → get_or s i 0 ≡ 0x3A → i + 1 < length s → ends_line (get_or s (i + 1) 0) ≡ false
-    → (get_or s (i + 1) 0 ≡ 0x20 → ⊥) → Tells plain_stop everything (drop i s)
-plain_other s i h f j q g =
-    let is : drop i s ≡ 0x3A ∷ drop (i + 1) s = drop-next s i h ∙ ap (λ (b : ℕ). b ∷ drop (i + 1) s) f in
-    let b : get_or (drop (i + 1) s) 0 0 ≡ get_or s (i + 1) 0 = get_or-drop (i + 1) s 0 0 ∙ ap (λ (k : ℕ). get_or s k 0) (omega arith) in
-    subst⁻¹ (Tells plain_stop everything) is (plain-open (drop (i + 1) s) (λ l. (λ e. g (sym b ∙ e), ap ends_line b ∙ q)))
+module _ {ranks : List ℕ} where
+  -- behind a colon stands another byte of the line than a space
+  pub plain_other :
+      (s : List ℕ) (i : ℕ) → i < length s → get_or s i 0 ≡ 0x3A → i + 1 < length s → ends_line (get_or s (i + 1) 0) ≡ false
+      → (get_or s (i + 1) 0 ≡ 0x20 → ⊥) → Tells ranks plain_stop everything (drop i s)
+  plain_other s i h f j q g =
+      let is : drop i s ≡ 0x3A ∷ drop (i + 1) s = drop-next s i h ∙ ap (λ (b : ℕ). b ∷ drop (i + 1) s) f in
+      let b : get_or (drop (i + 1) s) 0 0 ≡ get_or s (i + 1) 0 = get_or-drop (i + 1) s 0 0 ∙ ap (λ (k : ℕ). get_or s k 0) (omega arith) in
+      subst⁻¹ (Tells ranks plain_stop everything) is (plain-open (drop (i + 1) s) (λ l. (λ e. g (sym b ∙ e), ap ends_line b ∙ q)))
 
 -- a is what d was, with 0 in each place below i
 pub record Cleared (d a : List ℕ) (i : ℕ) : Type 0 where

@@ -24,6 +24,7 @@ use Rattle.restructured_text.specs.Label.{label_len_max}
 use Rattle.restructured_text.proofs.DelimitedLaws.{delimited-is}
 use Rattle.targetless.specs.declared.verdict.Verdict.{Verdict}
 use Rattle.targetless.specs.declared.state.Size.{Size}
+use Rattle.targetless.specs.Indents.{Rising}
 use Rattle.targetless.specs.Verdict.{joined_of, is_further, Blank, judged_of, either_of, up_to_of, lone_of, Tells, ends_line}
 use Rattle.targetless.specs.Runs.{label_run, is_long, no_label, more, ended, SizeOf, Sized}
 use Rattle.targetless.proofs.TextLaws.{text-byte, text-end, text-further, line-here, line-stops, further-lf-other, further-none-at, crlf-here, crlf-text}
@@ -238,7 +239,7 @@ sized-none s h g =
     (subst⁻¹ (SizeOf none (length indent + 3)) (text-end indent s (g indent blank)) (size-empty none (length indent + 3))))
 
 -- Labels behind a backtick.
-module _ (s : List ℕ) (label : Verdict) (z : Size) (t : Tells label_run label s) (q : Sized z s) where
+module _ {ranks : List ℕ} (s : List ℕ) (label : Verdict) (z : Size) (t : Tells ranks label_run label s) (q : Sized z s) where
   -- it is too long
   long-text :
       (indent : List ℕ) (n : ℕ) → Blank indent → not_line_ending_of s ≡ Some n → z.ends * (length indent + 3) + 1000 ≤ z.kept
@@ -255,7 +256,7 @@ module _ (s : List ℕ) (label : Verdict) (z : Size) (t : Tells label_run label 
       go None g = refl
 
   -- for each indent
-  pub label-everywhere : z.ends ≡ 0 → 1000 ≤ z.kept → (v : Verdict) → Tells no_label v s
+  pub label-everywhere : z.ends ≡ 0 → 1000 ≤ z.kept → (v : Verdict) → Tells ranks no_label v s
   label-everywhere a b v =
       record {
         told = λ indent n blank e j.
@@ -264,18 +265,18 @@ module _ (s : List ℕ) (label : Verdict) (z : Size) (t : Tells label_run label 
       }
 
   -- for short ones
-  pub label-far : 0 < z.ends → 1000 ≤ z.kept → Tells no_label (either_of label (lone_of (up_to_of ((z.kept - 1000) / z.ends)) false)) s
-  label-far a b = tells-either label_run (λ r. is_long (backticked_of false (0x60 ∷ r))) label (lone_of (up_to_of ((z.kept - 1000) / z.ends)) false) s t far
+  pub label-far : Rising ranks → 0 < z.ends → 1000 ≤ z.kept → Tells ranks no_label (either_of label (lone_of (up_to_of ranks ((z.kept - 1000) / z.ends)) false)) s
+  label-far rising a b = tells-either label_run (λ r. is_long (backticked_of false (0x60 ∷ r))) label (lone_of (up_to_of ranks ((z.kept - 1000) / z.ends)) false) s t far
     where
-      far : Tells (λ r. is_long (backticked_of false (0x60 ∷ r))) (lone_of (up_to_of ((z.kept - 1000) / z.ends)) false) s
+      far : Tells ranks (λ r. is_long (backticked_of false (0x60 ∷ r))) (lone_of (up_to_of ranks ((z.kept - 1000) / z.ends)) false) s
       far = record { told = λ indent n blank e. go indent n blank e (is_further (further_of indent (drop n s))) }
         where
           go :
-              (indent : List ℕ) (n : ℕ) → Blank indent → not_line_ending_of s ≡ Some n → (x : Bool) → judged_of (lone_of (up_to_of ((z.kept - 1000) / z.ends)) false) x (length indent) ≡ true
+              (indent : List ℕ) (n : ℕ) → Blank indent → not_line_ending_of s ≡ Some n → (x : Bool) → judged_of ranks (lone_of (up_to_of ranks ((z.kept - 1000) / z.ends)) false) x (length indent) ≡ true
               → is_long (backticked_of false (0x60 ∷ joined_of indent n s)) ≡ true
           go indent n blank e true j =
-              let w = judged-up-to ((z.kept - 1000) / z.ends) (length indent) (judged-lone (up_to_of ((z.kept - 1000) / z.ends)) false (length indent) j) in
+              let w = judged-up-to ranks rising ((z.kept - 1000) / z.ends) (length indent) (judged-lone ranks (up_to_of ranks ((z.kept - 1000) / z.ends)) false (length indent) j) in
               let y = (le-div_iff_mul-le a).0 w in
               let o = mul_comm (length indent + 3) z.ends in
               long-text indent n blank e (omega (arith, b, y, o))
-          go indent n blank e false j = absurd (false≢true (lone_is (up_to_of ((z.kept - 1000) / z.ends)) false (length indent) j))
+          go indent n blank e false j = absurd (false≢true (lone_is ranks (up_to_of ranks ((z.kept - 1000) / z.ends)) false (length indent) j))

@@ -105,13 +105,13 @@ abbrev pub closed_run : List ℕ → Bool
 closed_run s = run 0x60 (escapable_of true) closed_stop false false s
 
 -- the verdicts of a state are true of the texts that begin with s
-pub record StateTells (x : State) (s : List ℕ) : Type 0 where
-  pub destination : Tells destination_run x.destination s
-  pub label : Tells label_run x.label s
-  pub plain : Tells plain_run x.plain s
-  pub quoted : Tells quoted_run x.quoted s
-  pub closed : Tells closed_run x.closed s
-  pub target : Tells is_dead x.target s
+pub record StateTells (ranks : List ℕ) (x : State) (s : List ℕ) : Type 0 where
+  pub destination : Tells ranks destination_run x.destination s
+  pub label : Tells ranks label_run x.label s
+  pub plain : Tells ranks plain_run x.plain s
+  pub quoted : Tells ranks quoted_run x.quoted s
+  pub closed : Tells ranks closed_run x.closed s
+  pub target : Tells ranks is_dead x.target s
   pub size : Sized x.size s
 
 -- at a backslash that refuses what it stands in

@@ -1,12 +1,14 @@
--- What the contracts of private functions speak of: verdicts on the texts that stand from a place on, for all indents that their block may have.
+-- What the contracts of private functions speak of: verdicts on the texts that stand from a place on, for all indents that their block may have, by the
+-- ranks of those that are listed.
 -- Assumes nothing.
 use Rattle.std.specs.Prelude.{Option, Some, None}
-use Rattle.std.specs.Prelude.{ℕ, ◌+◌, ◌-◌, ◌/◌, ◌^◌, ◌<◌, ◌≡◌, List, [], ◌∷◌, ◌++◌, Bool, true, false, ◌||◌, eqb, leb, ltb, length, get_or, drop, take}
+use Rattle.std.specs.Prelude.{ℕ, ◌+◌, ◌-◌, ◌/◌, ◌^◌, ◌<◌, ◌≡◌, List, [], ◌∷◌, ◌++◌, Bool, true, false, ◌&&◌, ◌||◌, eqb, leb, length, get_or, drop, take}
 use Rattle.std.specs.Int.Bits.{bit_and, bit_or}
 use Rattle.rst_bytes.specs.Line.{is_space, not_line_ending_of}
 use Rattle.rst_bytes.specs.Tag.{starts_with}
 use Rattle.restructured_text.specs.Block.{three, further_of, lines_of}
 use Rattle.targetless.specs.declared.verdict.Verdict.{Verdict}
+use Rattle.targetless.specs.Indents.{rank_of, is_listed, within_of}
 
 -- a block's text that begins with s, whose line has n bytes
 abbrev pub joined_of : List ℕ → ℕ → List ℕ → List ℕ
@@ -38,14 +40,14 @@ abbrev pub is_lone : Verdict → Bool
 is_lone v = eqb (bit_and v.bits 1) 1
 
 -- what a verdict says for an indent of k bytes, by whether a further line follows
-abbrev pub judged_of : Verdict → Bool → ℕ → Bool
-judged_of v true k = elim (ltb k 127) [ true ↦ bit_at v.bits (k + 1) | false ↦ false ]
-judged_of v false k = is_lone v
+abbrev pub judged_of : List ℕ → Verdict → Bool → ℕ → Bool
+judged_of ranks v true k = is_listed ranks k && bit_at v.bits (rank_of ranks k + 1)
+judged_of ranks v false k = is_lone v
 
 -- the same by the bytes of an indent behind which a further line follows, if one does
-abbrev pub judged_in : Verdict → Option ℕ → Bool
-judged_in v (Some k) = judged_of v true k
-judged_in v None = judged_of v false 0
+abbrev pub judged_in : List ℕ → Verdict → Option ℕ → Bool
+judged_in ranks v (Some k) = judged_of ranks v true k
+judged_in ranks v None = judged_of ranks v false 0
 
 -- it is so for each indent
 abbrev pub everything : Verdict
@@ -76,12 +78,12 @@ unfoldable pub ones_of : ℕ → ℕ
 ones_of n = elim (leb 128 n) [ true ↦ ones | false ↦ 2 ^ n - 1 ]
 
 -- it is so for the indents that have at most m bytes with three spaces
-abbrev pub up_to_of : ℕ → Verdict
-up_to_of m = record { bits = ones_of (m - 1) }
+abbrev pub up_to_of : List ℕ → ℕ → Verdict
+up_to_of ranks m = record { bits = ones_of (within_of ranks m + 1) }
 
 -- for the others
-abbrev pub beyond_of : ℕ → Verdict
-beyond_of m = not_of (up_to_of m)
+abbrev pub beyond_of : List ℕ → ℕ → Verdict
+beyond_of ranks m = not_of (up_to_of ranks m)
 
 -- the same where a further line follows
 abbrev pub lone_of : Verdict → Bool → Verdict
@@ -89,15 +91,15 @@ lone_of v true = record { bits = bit_or v.bits 1 }
 lone_of v false = record { bits = bit_and v.bits 0xffff_ffff_ffff_ffff_ffff_ffff_ffff_fffe }
 
 -- at a line's end, by what is told of the next line, which has the first blanks in common with the line behind it
-abbrev pub over_of : Verdict → Bool → ℕ → Verdict
-over_of next lone shared =
-    lone_of (elim (is_lone next) [ true ↦ either_of next (beyond_of shared) | false ↦ both_of next (up_to_of shared) ]) lone
+abbrev pub over_of : List ℕ → Verdict → Bool → ℕ → Verdict
+over_of ranks next lone shared =
+    lone_of (elim (is_lone next) [ true ↦ either_of next (beyond_of ranks shared) | false ↦ both_of next (up_to_of ranks shared) ]) lone
 
 -- the verdict is true of the test of each text that begins with s
-pub record Tells (f : List ℕ → Bool) (v : Verdict) (s : List ℕ) : Type 0 where
+pub record Tells (ranks : List ℕ) (f : List ℕ → Bool) (v : Verdict) (s : List ℕ) : Type 0 where
   pub told :
       (indent : List ℕ) (n : ℕ) → Blank indent → not_line_ending_of s ≡ Some n
-      → judged_of v (is_further (further_of indent (drop n s))) (length indent) ≡ true → f (joined_of indent n s) ≡ true
+      → judged_of ranks v (is_further (further_of indent (drop n s))) (length indent) ≡ true → f (joined_of indent n s) ≡ true
 
 -- a run over a text, up to a stop or a wrong escape
 unfoldable pub run : ℕ → (ℕ → Bool) → (List ℕ → Bool) → Bool → Bool → List ℕ → Bool

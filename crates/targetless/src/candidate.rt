@@ -11,7 +11,7 @@ use crate::walk::Walk;
 use rst_bytes::line::is_space;
 use rst_bytes::tag::tag;
 
-impl Walk {
+impl Walk<'_> {
     // A place at which no target starts, if such a block has its header at the end of `front`; `rest` is the text behind it.
     pub fn free_before(&self, front: &[u8], rest: &[u8]) -> Option<usize>
         requires { Walked self.now rest.now }
@@ -40,7 +40,7 @@ impl Walk {
         } else {
             self.near
                 .target
-                .judged(on.then_some(indent.len()))
+                .judged(on.then_some(indent.len()), self.indents)
                 .then_some(k)
         }
     }
@@ -54,10 +54,11 @@ impl Walk {
         ensures { result ≡ true → OfText Unnamed indent.now (0x5F ∷ rest.now) }
     {
         let size = on.then_some(indent.len());
-        let plain = self.near.plain.judged(size);
+        let plain = self.near.plain.judged(size, self.indents);
         match rest {
             [b':', ..] => true,
-            [b'`', ..] => self.far.quoted.judged(size) && (plain || self.far.closed.judged(size)),
+            [b'`', ..] => self.far.quoted.judged(size, self.indents)
+                && (plain || self.far.closed.judged(size, self.indents)),
             _ => plain,
         }
     }

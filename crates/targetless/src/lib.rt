@@ -6,6 +6,7 @@
 #![tactic(auto)]
 
 mod candidate;
+mod indents;
 mod runs;
 mod state;
 mod verdict;
@@ -13,6 +14,7 @@ mod walk;
 
 ghost use Rattle.targetless.specs.Targetless.{Marks};
 
+use crate::indents::Indents;
 use crate::walk::Walk;
 
 // Marks places of s at which no target starts with 1, and others with 0; where the marks are fewer than the bytes of s, all with 0.
@@ -24,7 +26,8 @@ pub fn mark(s: &[u8], marks: &mut [u8])
     if marks.len() < s.len() {
         return;
     }
-    let mut walk = Walk::END;
+    let indents = Indents::of(s);
+    let mut walk = Walk::end(&indents);
     for i in (0..s.len()).rev() {
         if let Some(k) = walk.free_before(&s[..=i], &s[i + 1..]) {
             marks[k] = 1;

@@ -1,5 +1,5 @@
 // What the runs find from a place of a line on, by what they find from the next place and from the one behind it on.
-ghost use Rattle.std.specs.Prelude.{◌≡◌, ◌∷◌, false, slice_index, drop};
+ghost use Rattle.std.specs.Prelude.{◌≡◌, ◌∷◌, ℕ, List, false, slice_index, drop};
 ghost use Rattle.targetless.specs.Verdict.{ends_line, Tells};
 ghost use Rattle.targetless.specs.Runs.{
   word_labelled,
@@ -11,7 +11,7 @@ ghost use Rattle.targetless.specs.Runs.{
   plain_run,
   StateTells,
 };
-ghost use Rattle.targetless.specs.Walk.{Walked};
+ghost use Rattle.targetless.specs.Walk.{ranks_of, Walked};
 
 use crate::state::{Size, State};
 use crate::verdict::Verdict;
@@ -21,13 +21,13 @@ use restructured_text::transform::is_destination_escapable;
 use rst_bytes::escaped::is_escapable;
 use rst_bytes::word::word_run;
 
-impl Walk {
+impl Walk<'_> {
     // At a byte of a line, where `target` is told of a target that begins there.
     pub fn state_at(&self, b: u8, rest: &[u8], target: Verdict) -> State
         requires line { ends_line b ≡ false }
         requires walked { Walked self.now rest.now }
-        requires target { Tells is_dead target (b ∷ rest.now) }
-        ensures { StateTells result (b ∷ rest.now) }
+        requires target { Tells (ranks_of self.now) is_dead target (b ∷ rest.now) }
+        ensures { StateTells (ranks_of self.now) result (b ∷ rest.now) }
     {
         let passed = State {
             target,
@@ -57,7 +57,7 @@ impl Walk {
     pub fn target_at(&self, v: &[u8], spaced: bool) -> Verdict
         requires line { ends_line (slice_index v.now 0) ≡ false }
         requires walked { Walked self.now (drop 1 v.now) }
-        ensures { Tells is_dead result v.now }
+        ensures { Tells (ranks_of self.now) is_dead result v.now }
     {
         let [b, rest @ ..] = v else {
             return Verdict::NOTHING;
@@ -68,7 +68,7 @@ impl Walk {
             _ if !spaced => Verdict::NOTHING,
             b'`' => match rest {
                 [b'`', ..] => destination,
-                _ => destination & self.near.no_label(),
+                _ => destination & self.near.no_label(self.indents),
             },
             _ if is_word_label(v) => Verdict::NOTHING,
             _ => destination,
@@ -78,7 +78,7 @@ impl Walk {
     // At a colon, whether it ends no name, or the target behind it is refused.
     fn plain_stop(&self, rest: &[u8]) -> Verdict
         requires { Walked self.now rest.now }
-        ensures { Tells plain_stop result (0x3A ∷ rest.now) }
+        ensures { Tells (ranks_of self.now) plain_stop result (0x3A ∷ rest.now) }
     {
         match rest {
             [b' ', ..] => self.far.target,
@@ -90,7 +90,7 @@ impl Walk {
     // At a backslash.
     fn escaped(&self, rest: &[u8]) -> State
         requires { Walked self.now rest.now }
-        ensures { StateTells result (0x5C ∷ rest.now) }
+        ensures { StateTells (ranks_of self.now) result (0x5C ∷ rest.now) }
     {
         match rest {
             [c, ..] if ends_line(*c) => self.near.ended(),
@@ -102,7 +102,7 @@ impl Walk {
 
 // At a backtick, whether it closes no label.
 fn label_stop(rest: &[u8]) -> Verdict
-    ensures { Tells label_stop result (0x60 ∷ rest.now) }
+    ensures { (ranks : List ℕ) → Tells ranks label_stop result (0x60 ∷ rest.now) }
 {
     match rest {
         [b'_', ..] => Verdict::NOTHING,
@@ -112,8 +112,7 @@ fn label_stop(rest: &[u8]) -> Verdict
 
 // At a backtick, whether it closes no name, or the target behind is refused: `plain` is the next place's verdict on plain names.
 fn quoted_stop(rest: &[u8], plain: Verdict) -> Verdict
-    requires { Tells plain_run plain rest.now }
-    ensures { Tells quoted_stop result (0x60 ∷ rest.now) }
+    ensures { (ranks : List ℕ) → Tells ranks plain_run plain rest.now → Tells ranks quoted_stop result (0x60 ∷ rest.now) }
 {
     match rest {
         [b':', ..] => plain,
@@ -123,7 +122,7 @@ fn quoted_stop(rest: &[u8], plain: Verdict) -> Verdict
 
 // At a backtick, whether it closes a name.
 fn closed_stop(rest: &[u8]) -> Verdict
-    ensures { Tells closed_stop result (0x60 ∷ rest.now) }
+    ensures { (ranks : List ℕ) → Tells ranks closed_stop result (0x60 ∷ rest.now) }
 {
     match rest {
         [b':', b' ', ..] => Verdict::EVERYTHING,

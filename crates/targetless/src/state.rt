@@ -1,9 +1,11 @@
 // What the runs find from a place on.
 ghost use Rattle.std.specs.Prelude.{◌≡◌, ◌+◌, ◌^◌, ◌<◌, ℕ, List};
+ghost use Rattle.targetless.specs.Indents.{Rising};
 ghost use Rattle.targetless.specs.Verdict.{Tells};
 ghost use Rattle.targetless.specs.Runs.{more, ended, no_label, StateTells, ended_of, paired_of};
 ghost use Rattle.targetless.specs.Walk.{over_line};
 
+use crate::indents::Indents;
 use crate::verdict::Verdict;
 use restructured_text::label::Label;
 
@@ -70,18 +72,18 @@ impl State {
     };
 
     // At a line's end, by the state at the next line's start; `shared` blanks there stand at the front of the line behind it too.
-    pub fn over(self, shared: usize) -> State
+    pub fn over(self, shared: usize, indents: &Indents) -> State
         requires kept { self.size.kept + 1 < 2 ^ 64 }
         requires ends { self.size.ends + 1 < 2 ^ 64 }
-        ensures { result ≡ over_line self shared (ended self.size) }
+        ensures { result ≡ over_line indents.now.ranks self shared (ended self.size) }
     {
-        let destination = self.destination.over(false, shared);
+        let destination = self.destination.over(false, shared, indents);
         State {
             destination,
-            label: self.label.over(true, shared),
-            plain: self.plain.over(true, shared),
-            quoted: self.quoted.over(true, shared),
-            closed: self.closed.over(false, shared),
+            label: self.label.over(true, shared, indents),
+            plain: self.plain.over(true, shared, indents),
+            quoted: self.quoted.over(true, shared, indents),
+            closed: self.closed.over(false, shared, indents),
             target: destination,
             size: Size {
                 kept: self.size.kept + 1,
@@ -133,8 +135,9 @@ impl State {
 
     // Whether no label stands behind a backtick: none is closed, or it is refused, or it is too long.
     #[inline(never)]
-    pub fn no_label(self) -> Verdict
-        ensures { (s : List ℕ) → StateTells self s → Tells no_label result s }
+    pub fn no_label(self, indents: &Indents) -> Verdict
+        requires { Rising indents.now.ranks }
+        ensures { (s : List ℕ) → StateTells indents.now.ranks self s → Tells indents.now.ranks no_label result s }
     {
         let size = self.size;
         if size.kept < TOO_LONG {
@@ -143,7 +146,7 @@ impl State {
         if size.ends == 0 {
             return Verdict::EVERYTHING;
         }
-        let long = Verdict::up_to((size.kept - TOO_LONG) / size.ends);
+        let long = Verdict::up_to((size.kept - TOO_LONG) / size.ends, indents);
         self.label | long.with_lone(false)
     }
 }

@@ -8,14 +8,17 @@ ghost use Rattle.targetless.specs.Verdict.{
   ones_of,
   up_to_of,
   lone_of,
+  is_lone,
   over_of,
   judged_in,
 };
 
+use crate::indents::Indents;
 use std::ops::{BitAnd, BitOr, Not};
 
 // What is told of the texts that stand from a place on, for each indent that their block may have: where no further line follows the line,
-// it is so if bit 0 is 1; where one does, for an indent of k bytes if bit k + 1 is 1. Of 127 bytes and more nothing is told there.
+// it is so if bit 0 is 1; where one does, for an indent that is listed, if bit k + 1 is 1, where k listed ones are shorter. Of others nothing is told
+// there.
 #[derive(Clone, Copy)]
 pub struct Verdict {
     pub bits: u128,
@@ -34,11 +37,11 @@ impl Verdict {
     pub const NOTHING: Verdict = Verdict { bits: 0 };
 
     // It is so for the indents that have at most m bytes with three spaces.
-    pub fn up_to(m: usize) -> Verdict
-        ensures { result ≡ up_to_of m }
+    pub fn up_to(m: usize, indents: &Indents) -> Verdict
+        ensures { result ≡ up_to_of indents.now.ranks m }
     {
         Verdict {
-            bits: ones(m.saturating_sub(1)),
+            bits: ones(indents.within(m) + 1),
         }
     }
 
@@ -51,11 +54,11 @@ impl Verdict {
     }
 
     // At a line's end, by what is told of the next line; `shared` blanks at its front stand at the front of the line behind it too.
-    pub fn over(self, lone: bool, shared: usize) -> Verdict
-        ensures { result ≡ over_of self lone shared }
+    pub fn over(self, lone: bool, shared: usize, indents: &Indents) -> Verdict
+        ensures { result ≡ over_of indents.now.ranks self lone shared }
     {
-        let within = Verdict::up_to(shared);
-        let all = if self.judged(None) {
+        let within = Verdict::up_to(shared, indents);
+        let all = if self.is_lone() {
             self | !within
         } else {
             self & within
@@ -64,14 +67,20 @@ impl Verdict {
     }
 
     // What a verdict says for an indent of k bytes where a further line follows, or where none does.
-    pub fn judged(self, indent: Option<usize>) -> bool
-        ensures { result ≡ judged_in self indent }
+    pub fn judged(self, indent: Option<usize>, indents: &Indents) -> bool
+        ensures { result ≡ judged_in indents.now.ranks self indent }
     {
         match indent {
-            None => self.bits & 1 == 1,
-            Some(k @ 0..127) => bit(self.bits, k + 1),
-            Some(_) => false,
+            None => self.is_lone(),
+            Some(k) => indents.lists(k) && bit(self.bits, indents.rank(k) + 1),
         }
+    }
+
+    // What it says where no further line follows.
+    fn is_lone(self) -> bool
+        ensures { result ≡ is_lone self }
+    {
+        self.bits & 1 == 1
     }
 }
 

@@ -1,21 +1,24 @@
 // What is kept at a place while the text is gone through from its end to its front, over the ends of lines too.
-ghost use Rattle.std.specs.Prelude.{◌≡◌, ◌∷◌, false, slice_index, drop};
+ghost use Rattle.std.specs.Prelude.{◌≡◌, [], ◌∷◌, false, slice_index, drop};
 ghost use Rattle.rst_bytes.specs.Line.{is_space, space0_of};
+ghost use Rattle.targetless.specs.Indents.{Rising};
 ghost use Rattle.targetless.specs.Verdict.{ends_line, Shared};
 ghost use Rattle.targetless.specs.Walk.{stop_of, Walked};
 
+use crate::indents::Indents;
 use crate::state::State;
 use crate::verdict::Verdict;
 use rst_bytes::line::{is_space, space0};
 
 // The states at a place and at the next one; at a line's end, whether a colon before it ends no name, or the target on the next line is refused;
 // whether a target behind the blanks at this place is refused; and how many bytes the text has from the line behind this one on, which is the empty
-// text if there is no such line or it is refused. If this line itself is refused, `next` is `None`.
+// text if there is no such line or it is refused. If this line itself is refused, `next` is `None`. And the indents that the verdicts tell of.
 //
 // The text behind the place is handed over beside this. As a field, with a ghost field for `Walked`, it would have to be the end of what `step` is
 // handed, which is as much to ask; and each step would build all fields anew, since `..self` is refused with ghost fields.
 #[derive(Clone, Copy)]
-pub struct Walk {
+pub struct Walk<'a> {
+    pub indents: &'a Indents,
     pub near: State,
     pub far: State,
     pub stop: Verdict,
@@ -23,15 +26,21 @@ pub struct Walk {
     pub next: Option<usize>,
 }
 
-impl Walk {
+impl<'a> Walk<'a> {
     // At the text's end.
-    pub const END: Walk = Walk {
-        near: State::LAST,
-        far: State::LAST,
-        stop: Verdict::NOTHING,
-        front: Verdict::NOTHING,
-        next: Some(0),
-    };
+    pub fn end(indents: &'a Indents) -> Walk<'a>
+        requires { Rising indents.now.ranks }
+        ensures { Walked result [] }
+    {
+        Walk {
+            indents,
+            near: State::LAST,
+            far: State::LAST,
+            stop: Verdict::NOTHING,
+            front: Verdict::NOTHING,
+            next: Some(0),
+        }
+    }
 
     // One byte to the front, to the place from which v is the text; `spaced` where a space stands before it.
     pub fn step(&mut self, v: &[u8], spaced: bool)
@@ -84,6 +93,7 @@ impl Walk {
     {
         let Some(next) = self.next else {
             *self = Walk {
+                indents: self.indents,
                 near: State::LAST,
                 far: self.near,
                 stop: Verdict::EVERYTHING,
@@ -93,11 +103,12 @@ impl Walk {
             return;
         };
         let shared = shared_blanks(rest, &rest[rest.len() - next..]);
-        let near = self.near.over(shared);
+        let near = self.near.over(shared, self.indents);
         *self = Walk {
+            indents: self.indents,
             near,
             far: self.near,
-            stop: line_stop(rest, shared, near.destination, self.front),
+            stop: line_stop(rest, shared, near.destination, self.front, self.indents),
             front: near.target,
             next: Some(rest.len()),
         };
@@ -132,12 +143,18 @@ fn shared_blanks(a: &[u8], b: &[u8]) -> usize
 // At a line's end behind a colon, before the line at the front of `rest`: in the text a space and the next line stand there, so the name ends, and
 // the target stands on that line. If blanks are left before it, it is a destination; else `front` tells of it. `shared` blanks stand at the front of
 // the line behind too.
-fn line_stop(rest: &[u8], shared: usize, destination: Verdict, front: Verdict) -> Verdict
-    ensures { result ≡ stop_of (space0_of rest.now) shared destination front }
+fn line_stop(
+    rest: &[u8],
+    shared: usize,
+    destination: Verdict,
+    front: Verdict,
+    indents: &Indents,
+) -> Verdict
+    ensures { result ≡ stop_of indents.now.ranks (space0_of rest.now) shared destination front }
 {
     let q = space0(rest);
-    let told = if 3 <= q && !front.judged((q <= shared).then_some(q - 3)) {
-        destination & Verdict::up_to(q - 1)
+    let told = if 3 <= q && !front.judged((q <= shared).then_some(q - 3), indents) {
+        destination & Verdict::up_to(q - 1, indents)
     } else {
         destination
     };

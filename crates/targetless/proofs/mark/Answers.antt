@@ -6,7 +6,7 @@ use Rattle.rst_bytes.proofs.Lists.{part-from}
 use Rattle.restructured_text.proofs.BlockLaws.{from}
 use Rattle.targetless.specs.Targetless.{NoTarget, Marks}
 use Rattle.targetless.specs.Walk.{Walked}
-use Rattle.targetless.proofs.WalkLaws.{walked_end, walked-rest, walked-behind, marks-none, marks-more}
+use Rattle.targetless.proofs.WalkLaws.{walked-rest, walked-behind, marks-none, marks-more}
 use Rattle.targetless.proofs.mark.Goals as goal
 use Rattle.targetless.proofs.mark.Goals.{in-Some, in_default}
 
@@ -15,7 +15,7 @@ loop-i-init c =
     let s = c.args.s.now in
     let zero : c.fill.new.self ≡ replicate (length c.args.marks.now) 0 = search rules in
     record {
-      walked = subst⁻¹ (Walked _) (drop-length s) walked_end;
+      walked = subst⁻¹ (Walked _) (drop-length s) c.end-walk.ensures;
       marked = subst⁻¹ (λ l. Marks l s) zero (marks-none (length c.args.marks.now) s);
       room = c.if-marks-s.false;
     }

@@ -8,4 +8,4 @@ pub returns-then-size-eq0 : goal.returns-then-size-eq0
 returns-then-size-eq0 c s t = label-everywhere s c.args.self.label c.args.self.size t.label t.size c.if-size-eq0.true c.if-size-lt-TOO_LONG.false everything
 
 pub returns : goal.returns
-returns c s t = rw (c.bitor.ensures, c.with_lone.ensures, c.up_to-long.ensures) (label-far s c.args.self.label c.args.self.size t.label t.size (omega (arith, c.if-size-eq0.false)) c.if-size-lt-TOO_LONG.false)
+returns c s t = rw (c.bitor.ensures, c.with_lone.ensures, c.up_to-long.ensures) (label-far s c.args.self.label c.args.self.size t.label t.size c.requires (omega (arith, c.if-size-eq0.false)) c.if-size-lt-TOO_LONG.false)

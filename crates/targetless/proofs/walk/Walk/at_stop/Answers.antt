@@ -9,4 +9,4 @@ use Rattle.targetless.proofs.walk.Walk.at_stop.Goals as goal
 pub returns : goal.returns
 returns c =
     walked-byte c.args.v.now c.args.self.now c.state_at-near.result (omega arith) c.requires.line c.requires.walked
-    (subst⁻¹ (StateTells c.state_at-near.result) (first-from c.args.v.now (get_or c.args.v.now 0 0) (omega arith) refl) c.state_at-near.ensures) c.requires.solid
+    (subst⁻¹ (StateTells _ c.state_at-near.result) (first-from c.args.v.now (get_or c.args.v.now 0 0) (omega arith) refl) c.state_at-near.ensures) c.requires.solid

@@ -34,5 +34,5 @@ returns-else-named c =
       c.blanks_at_end-k.ensures.within,
       free-dead c.args.before.now c.args.rest.now c.blanks_at_end-k.result c.blanks_at_end-k.ensures.blank c.args.self.now c.requires c.in-Some.next c.in-Some.is c.goes_on-on.result
           (flagged c.args.before.now c.args.rest.now c.blanks_at_end-k.result c.blanks_at_end-k.ensures.blank c.args.self.now c.requires c.in-Some.next c.in-Some.is c.goes_on-on.result c.goes_on-on.ensures)
-          (sym (judged-then c.args.self.now.near.target c.goes_on-on.result _ c.then_some-else-named.result c.then_some-else-named.ensures) ∙ sym c.judged.ensures ∙ r),
+          (sym (judged-then _ c.args.self.now.near.target c.goes_on-on.result _ c.then_some-else-named.result c.then_some-else-named.ensures) ∙ sym c.judged.ensures ∙ r),
     )))

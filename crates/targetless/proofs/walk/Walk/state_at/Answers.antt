@@ -7,7 +7,7 @@ pub returns-in-96 : goal.returns-in-96
 returns-in-96 c =
     rw c.in-96.is
     (state-tick c.args.rest.now c.args.self.now.near c.label_stop.result c.quoted_stop.result c.closed_stop.result c.args.target
-    c.requires.walked.near c.label_stop.ensures c.quoted_stop.ensures c.closed_stop.ensures (rw c.in-96.is at c.requires.target))
+    c.requires.walked.near (c.label_stop.ensures _) (c.quoted_stop.ensures _ c.requires.walked.near.plain) (c.closed_stop.ensures _) (rw c.in-96.is at c.requires.target))
 
 pub returns-in-58 : goal.returns-in-58
 returns-in-58 c =

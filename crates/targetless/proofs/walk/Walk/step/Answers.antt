@@ -28,7 +28,7 @@ returns-then-not-is_space c =
     let is = first-is v b (omega arith) refl in
     rw c.longer-self.ensures
     (walked-byte v w _ (omega arith) line c.requires
-    (subst⁻¹ (StateTells _) is (state-passed w.near b (drop 1 v) line (λ e. omega arith) (λ e. omega arith) (λ e. omega arith) c.requires.near _ (subst (Tells is_dead _) is c.target_at-target.ensures)))
+    (subst⁻¹ (StateTells _ _) is (state-passed w.near b (drop 1 v) line (λ e. omega arith) (λ e. omega arith) (λ e. omega arith) c.requires.near _ (subst (Tells _ is_dead _) is c.target_at-target.ensures)))
     (sym c.is_space.ensures ∙ c.if-not-is_space.true))
 
 pub returns-else-not-is_space : goal.returns-else-not-is_space
@@ -40,5 +40,5 @@ returns-else-not-is_space c =
     let is = first-is v b (omega arith) refl in
     rw c.longer-self.ensures
     (walked-blank v w _ (omega arith) line c.requires
-    (subst⁻¹ (StateTells _) is (state-passed w.near b (drop 1 v) line (λ e. omega arith) (λ e. omega arith) (λ e. omega arith) c.requires.near _ (subst (Tells is_dead _) is c.target_at-target.ensures)))
+    (subst⁻¹ (StateTells _ _) is (state-passed w.near b (drop 1 v) line (λ e. omega arith) (λ e. omega arith) (λ e. omega arith) c.requires.near _ (subst (Tells _ is_dead _) is c.target_at-target.ensures)))
     (sym c.is_space.ensures ∙ c.if-not-is_space.false))

@@ -20,14 +20,14 @@ pub returns-in-96-rest : goal.returns-in-96-rest
 returns-in-96-rest c =
     let v = c.args.v.now in
     let d = c.args.self.now.near.destination in
-    subst⁻¹ (Tells is_dead d) (first-from v 96 (omega arith) c.in-96.is)
-    (target-two (from v 1) d (omega arith) (omega arith) (subst⁻¹ (Tells destination_run d) (part-from v 1) c.requires.walked.near.destination))
+    subst⁻¹ (Tells _ is_dead d) (first-from v 96 (omega arith) c.in-96.is)
+    (target-two (from v 1) d (omega arith) (omega arith) (subst⁻¹ (Tells _ destination_run d) (part-from v 1) c.requires.walked.near.destination))
 
 pub returns-in_default-rest : goal.returns-in_default-rest
 returns-in_default-rest c =
     let p = c.requires.walked.near in
     rw c.bitand.ensures
-    (subst⁻¹ (Tells is_dead _) (first-is c.args.v.now 96 (omega arith) c.in-96.is)
+    (subst⁻¹ (Tells _ is_dead _) (first-is c.args.v.now 96 (omega arith) c.in-96.is)
     (target-ticked (drop 1 c.args.v.now) c.args.self.now.near.destination c.no_label.result p.destination (c.no_label.ensures _ p)))
 
 pub returns-in_default-2 : goal.returns-in_default-2
