@@ -283,6 +283,38 @@ fn behind(random: &mut Random) -> Vec<u8> {
     doc
 }
 
+/// Blocks of a few depths, with further lines and labels about as long as may be,
+/// behind blocks that are no targets: where none starts is told by indents and lengths.
+fn deep(random: &mut Random) -> Vec<u8> {
+    const DEPTHS: [usize; 8] = [0, 1, 5, 60, 126, 128, 300, 1022];
+    const HEADERS: [&str; 5] = [".. _", ".. _b: ", ".. _`b`: ", ".. _b:", "__ "];
+    let depths: Vec<usize> = (0..1 + random.below(3))
+        .map(|_| random.pick(&DEPTHS) + random.below(4))
+        .collect();
+    let mut doc = NO_TARGETS.to_string();
+    if random.once_in(8) {
+        // More indents than are told apart.
+        for depth in 0..125 + random.below(6) {
+            doc += &format!("{}.. _\n", " ".repeat(depth));
+        }
+    }
+    for _ in 0..random.below(40) {
+        let blanks = " ".repeat(*random.pick(&depths));
+        doc += &match random.below(10) {
+            0..3 => format!("a_{blanks}{}", random.pick(&HEADERS)),
+            3 => format!("\n{blanks}{}", random.pick(&HEADERS)),
+            4 | 5 => format!("\n{blanks}{}", " ".repeat(2 + random.below(3))),
+            6 => {
+                let most = *random.pick(&[4, 100, 345, 1010]);
+                "w".repeat(most - random.below(most.min(30)))
+            }
+            _ => random.pick(&TARGETS).to_string(),
+        };
+    }
+    doc.truncate(DOCUMENT_MAX);
+    doc.into_bytes()
+}
+
 /// About as many links or definitions as there may be, of a few kinds, in any
 /// order.
 pub fn crowded(random: &mut Random) -> Vec<u8> {
@@ -351,13 +383,14 @@ pub struct Kind {
 }
 
 /// The kinds of drawn documents for the document call.
-pub const KINDS: [Kind; 9] = [
+pub const KINDS: [Kind; 10] = [
     kind("generated documents", 1, grown),
     kind("damaged copies of generated documents", 1, damaged),
     kind("drawn lines", 1, lines),
     kind("drawn from the forms of the parsers", 2, formed),
     kind("drawn tokens", 2, tokens),
     kind("behind blocks that are no targets", 1, behind),
+    kind("blocks of a few depths", 4, deep),
     kind("documents with a byte outside the domain", 8, grown_outside),
     kind("about as many links and definitions as may be", 50, crowded),
     kind("about as long as may be", 200, long),
