@@ -77,7 +77,7 @@ pub struct Known {
 }
 
 // How many long blocks are read that are none before the places are marked at which none begins.
-const FAILED_MAX: usize = 8;
+const FAILED_MAX: usize = 4;
 
 impl Known {
     // One more of the long blocks that were read and are none.

@@ -57,8 +57,8 @@ const REFUSED: &[&str] = &[
     "`a <", "b", "\\_", "\\ ", "_", ">`_", ">`__", "__ ", ".. _c: ", "`c\\_`_", "\n   ",
 ];
 
-/// Eight blocks that begin like a target and are none, with a further line each: so
-/// many are read before it is marked where no target starts.
+/// Eight blocks that begin like a target and are none, with a further line each: more
+/// than are read before it is marked where no target starts.
 const NO_TARGETS: &str = concat!(
     ".. _b\n   c\n.. _b\n   c\n.. _b\n   c\n.. _b\n   c\n",
     ".. _b\n   c\n.. _b\n   c\n.. _b\n   c\n.. _b\n   c\n",
