@@ -7,13 +7,14 @@ use Prim.Native.Nat.{ℕ, ◌+◌, ◌-◌, ◌<◌, ◌≤◌}
 use native.Mathlib.Omega.{arith}
 use mathlib.Core.Path.{◌≡◌, refl, sym, ap, ◌∙◌}
 use mathlib.Core.List.{List, [], ◌∷◌, ◌++◌}
-use mathlib.Core.Bool.{Bool, true, false, ◌&&◌, false≢true, and-false}
+use mathlib.Core.Bool.{Bool, true, false, ◌&&◌, false≢true}
 use mathlib.Core.Logic.{⊎_elim}
 use lib.Dec.{leb, eqb}
 use lib.ListN.{length, drop, length-drop}
 use lib.Seq.{drop-append-le}
 use borrow.Author.Tests.{eq-eqb, ne_eqb, eqb-true, leb-true, le-leb, lt-leb}
-use Rattle.std.specs.Cmp.Lexicographic.{pointwise}
+use lib.Pointwise.{pointwise, pointwise_long}
+use Rattle.std.proofs.lemmas.Bool.{false_from_ne_true}
 use Rattle.rst_bytes.specs.Appending.{free}
 use Rattle.rst_bytes.specs.Escaped.{escaped_of, is_stop}
 use Rattle.rst_bytes.specs.Tag.{starts_with}
@@ -185,17 +186,12 @@ pointwise-same (c ∷ t) (b ∷ s) h = go (eqb b c) refl (pointwise-same t s (om
     go true e h = simp (e, eq-eqb c b (sym (eqb-true b c e))) h
     go false e h = simp (e, ne_eqb c b (λ f. false≢true (sym e ∙ eq-eqb b c (sym f)))) refl
 
-pointwise-longer : (t s : List ℕ) → length s < length t → pointwise eqb t s ≡ false
-pointwise-longer [] s h = absurd (omega arith)
-pointwise-longer (c ∷ t) [] h = refl
-pointwise-longer (c ∷ t) (b ∷ s) h = ap (λ (x : Bool). eqb c b && x) (pointwise-longer t s (omega arith)) ∙ and-false (eqb c b)
-
 pub ends-pointwise : (t s : List ℕ) → pointwise eqb t (drop (length s - length t) s) ≡ ends_with t s
 unfolding ends_with
 ends-pointwise t s = ⊎_elim short enough (lt-or-le (length s) (length t))
   where
     short : length s < length t → pointwise eqb t (drop (length s - length t) s) ≡ (leb (length t) (length s) && starts_with t (drop (length s - length t) s))
-    short h = simp (lt-leb (length t) (length s) h) (pointwise-longer t (drop (length s - length t) s) (omega (arith, length-drop (length s - length t) s)))
+    short h = simp (lt-leb (length t) (length s) h) (false_from_ne_true _ (λ e. omega (arith, pointwise_long eqb t _ e, length-drop (length s - length t) s)))
 
     enough : length t ≤ length s → pointwise eqb t (drop (length s - length t) s) ≡ (leb (length t) (length s) && starts_with t (drop (length s - length t) s))
     enough h = simp (le-leb (length t) (length s) h) (pointwise-same t (drop (length s - length t) s) (omega (arith, length-drop (length s - length t) s)))
