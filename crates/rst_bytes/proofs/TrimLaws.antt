@@ -279,6 +279,9 @@ module _ (s x : List ℕ) (w : Trimmed s x) where
           (blank-cases b.point b.blank))
           (char-cases (drop (length x - 2) s) 2 b.point b.char)
 
+-- for the goals that nothing more is blank
+pub ruleset whole = (trimmed-whole)
+
 -- the trimmed text is within what there is
 pub trim-within : (s : List ℕ) → trim_of s ≤ length s
 unfolding trim_of

@@ -3,6 +3,7 @@ ghost use Rattle.std.specs.Prelude.{◌≡◌, take};
 ghost use Rattle.rst_bytes.specs.Trim.{trim_of};
 
 // The text without the blank characters at its end, read from the end: U+0009 to 000D, 0020, 0085, 00A0.
+#[tactic(auto, using(crate::proofs::TrimLaws::whole))]
 pub fn trim_end(s: &[u8]) -> &[u8]
     ensures { result.now ≡ take (trim_of s.now) s.now }
 {

@@ -3,7 +3,7 @@
 use Rattle.std.proofs.Common.{rules, arith, sym, ap, ◌∙◌}
 use lib.Seq.{take-length, drop-length}
 use Rattle.rst_bytes.specs.Trim.{blanks}
-use Rattle.rst_bytes.proofs.TrimLaws.{blanks-none, without-one, without-two, trimmed-whole}
+use Rattle.rst_bytes.proofs.TrimLaws.{blanks-none, without-one, without-two}
 use Rattle.rst_bytes.proofs.trim.trim_end.Goals.{then-text-lt2+in-32-1, then-text-lt2+in_default+else-text-lt9+then-text-lt14, else-text-lt2+in-32-1, else-text-lt2+in_default+else-text-lt9-2+then-text-lt14-2}
 use Rattle.rst_bytes.proofs.trim.trim_end.Goals as goal
 
@@ -15,21 +15,3 @@ loop-text-preserved-in-9-to-13 c = without-two c.args.s.now c.loop-text.text.now
 
 pub loop-text-preserved : goal.loop-text-preserved
 loop-text-preserved c = without-one c.args.s.now c.loop-text.text.now c.loop-text.invariant (search rules)
-
-pub returns-in_default : goal.returns-in_default
-returns-in_default c = trimmed-whole c.args.s.now c.loop-text.text.now c.loop-text.invariant (λ h d. search rules) (λ h e d. search rules)
-
-pub returns-in_default-2 : goal.returns-in_default-2
-returns-in_default-2 c = trimmed-whole c.args.s.now c.loop-text.text.now c.loop-text.invariant (λ h d. search rules) (λ h e d. search rules)
-
-pub returns-in_default-3 : goal.returns-in_default-3
-returns-in_default-3 c = trimmed-whole c.args.s.now c.loop-text.text.now c.loop-text.invariant (λ h d. search rules) (λ h e d. search rules)
-
-pub returns-in_default-4 : goal.returns-in_default-4
-returns-in_default-4 c = trimmed-whole c.args.s.now c.loop-text.text.now c.loop-text.invariant (λ h d. search rules) (λ h e d. search rules)
-
-pub returns-in_default-5 : goal.returns-in_default-5
-returns-in_default-5 c = trimmed-whole c.args.s.now c.loop-text.text.now c.loop-text.invariant (λ h d. search rules) (λ h e d. search rules)
-
-pub returns-in_default-6 : goal.returns-in_default-6
-returns-in_default-6 c = trimmed-whole c.args.s.now c.loop-text.text.now c.loop-text.invariant (λ h d. search rules) (λ h e d. search rules)
