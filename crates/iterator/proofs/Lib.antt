@@ -24,3 +24,4 @@ pub mod DocumentLaws
 pub mod AcceptedLaws
 pub mod Named
 pub mod CasesHold
+mod AreaLaws

@@ -21,7 +21,7 @@ ghost use Rattle.iterator.specs.Document.{answer_of, document_of, verdict, verdi
 ghost use Rattle.iterator.specs.Render.{render_number};
 ghost use Rattle.iterator.specs.Inner.{Roomy, outcome_of, Told};
 
-use crate::areas::clear;
+use crate::areas::{clear, clear_bytes};
 use crate::collect::collect;
 use crate::records::Strings;
 use crate::render::Render;
@@ -113,7 +113,8 @@ fn work(
     }
 }
 
-// The links of a document as records at the front of the output, or a refusal; both work areas are left all zero.
+// The links of a document as records at the front of the output, or a refusal; both work areas are left all zero, the numbers last, so that
+// they are in the cache for the next call.
 pub fn document(
     document: &[u8],
     render: u32,
@@ -124,7 +125,7 @@ pub fn document(
     ensures { answer_of (verdict result output.new) numbers.new bytes.new ≡ document_of document.now render numbers.old bytes.old output.old }
 {
     let answer = work(document, render, numbers, bytes, output);
+    clear_bytes(bytes);
     clear(numbers, 0);
-    clear(bytes, 0);
     Outcome::new(answer)
 }
