@@ -22,7 +22,10 @@
  *   pointer, NULL too.
  * - The areas of one call must not overlap, the document among them.
  * - The work areas may hold anything before rst_document(). Behind it every
- *   element of both is 0, whatever their lengths and whatever was returned.
+ *   element of both is 0, whatever their lengths and whatever was returned. Bytes
+ *   that are 0 already are only read: so a tool that tells of memory that was
+ *   never written (valgrind) speaks of areas straight from malloc(). Lend static
+ *   ones, or calloc()'s, and the same ones again: that is quickest, too.
  * - Refused, the output (or both string buffers) keeps every byte. Accepted, it
  *   begins with what was asked for, and all bytes behind that keep their values.
  * - The same arguments give the same answer and the same bytes.
