@@ -25,8 +25,10 @@ fn head(what: &str, token: &str, times: usize, then: &str) -> (String, Vec<u8>) 
 pub fn heads() -> Vec<(String, Vec<u8>)> {
     let label = word(1000);
     let lines = format!("{}\n{}", word(60), blanks(8)).repeat(18);
-    // An indent that is not marked.
     let deep = blanks(127);
+    // Indents of which marks tell nothing: too deep, and one more than are told apart.
+    let (deeper, other) = (blanks(1025), blanks(128));
+    let indents: String = (0..127).map(|n| blanks(n) + ".. _\n").collect();
     let named = |what: &str, then: &str| head(what, "a_ .. _b ", 248, then);
     vec![
         named("a name that does not end", ""),
@@ -63,6 +65,22 @@ pub fn heads() -> Vec<(String, Vec<u8>)> {
             &format!("a_{deep}__ "),
             100,
             &format!("d\n{deep}   "),
+        ),
+        head(
+            "a deeper label on the next line",
+            &format!("a_{deeper}.. _b "),
+            8,
+            &format!(":\n{deeper}   `"),
+        ),
+        (
+            "127 indents and 27 links before a label on the next line".into(),
+            [
+                indents,
+                format!("a_{other}.. _b ").repeat(27),
+                format!(":\n{other}   `"),
+            ]
+            .concat()
+            .into_bytes(),
         ),
     ]
 }
