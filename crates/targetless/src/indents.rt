@@ -18,21 +18,24 @@ impl Indents {
     // How many may be listed.
     const MOST: usize = 127;
 
-    // Those of the blocks that may begin in s.
-    pub fn of(s: &[u8]) -> Indents
-        ensures { Rising result.ranks }
+    // None is listed.
+    pub const NONE: Indents = Indents {
+        ranks: [0; Indents::LONGEST + 1],
+    };
+
+    // Lists those of the blocks that may begin in s.
+    pub fn list(&mut self, s: &[u8])
+        ensures { Rising self.new.ranks }
     {
-        let mut ranks = [0; Indents::LONGEST + 1];
-        note(s, &mut ranks);
+        note(s, &mut self.ranks);
         let mut shorter: u8 = 0;
-        for k in 0..ranks.len() {
-            let noted = ranks[k];
-            ranks[k] = shorter;
+        for k in 0..self.ranks.len() {
+            let noted = self.ranks[k];
+            self.ranks[k] = shorter;
             if noted == 1 && usize::from(shorter) < Indents::MOST {
                 shorter += 1;
             }
         }
-        Indents { ranks }
     }
 
     // Whether an indent of k bytes is listed.

@@ -26,7 +26,8 @@ pub fn mark(s: &[u8], marks: &mut [u8])
     if marks.len() < s.len() {
         return;
     }
-    let indents = Indents::of(s);
+    let mut indents = Indents::NONE;
+    indents.list(s);
     let mut walk = Walk::end(&indents);
     for i in (0..s.len()).rev() {
         if let Some(k) = walk.free_before(&s[..=i], &s[i + 1..]) {

@@ -2,8 +2,8 @@
 use Rattle.std.proofs.Common.{◌≤◌, ◌∙◌, arith}
 use lib.ListN.{length-set}
 use Rattle.targetless.proofs.IndentsLaws.{rises-more, rising-all}
-use Rattle.targetless.proofs.indents.Indents.of.Goals as goal
-use Rattle.targetless.proofs.indents.Indents.of.Goals.{then-noted-eq1+then-from-lt-MOST, else-noted-eq1}
+use Rattle.targetless.proofs.indents.Indents.list.Goals as goal
+use Rattle.targetless.proofs.indents.Indents.list.Goals.{then-noted-eq1+then-from-lt-MOST, else-noted-eq1}
 
 pub loop-k-preserved : goal.loop-k-preserved
 loop-k-preserved c =
@@ -12,7 +12,7 @@ loop-k-preserved c =
       | then-noted-eq1+then-from-lt-MOST w ↦ (omega (arith, w.shorter-is), omega (arith, w.shorter-is, w.if-from-lt-MOST, w.from.ensures))
       | else-noted-eq1 w ↦ (omega (arith, w.shorter-is), omega (arith, w.shorter-is, c.loop-k.invariant.1))
     ] in
-    (rises-more c.loop-k.ranks c.loop-k.k c.loop-k.shorter c.if-noted-eq1.shorter (omega (arith, c.loop-k.invariant.2, c.loop-k-test.true)) w.0 c.loop-k.invariant.0, w.1, length-set c.loop-k.ranks c.loop-k.k c.loop-k.shorter ∙ c.loop-k.invariant.2)
+    (rises-more c.loop-k.self.ranks c.loop-k.k c.loop-k.shorter c.if-noted-eq1.shorter (omega (arith, c.loop-k.invariant.2, c.loop-k-test.true)) w.0 c.loop-k.invariant.0, w.1, length-set c.loop-k.self.ranks c.loop-k.k c.loop-k.shorter ∙ c.loop-k.invariant.2)
 
 pub returns : goal.returns
-returns c = rising-all c.loop-k.ranks c.loop-k.k c.loop-k.shorter (omega arith) c.loop-k.invariant.0
+returns c = rising-all c.loop-k.self.ranks c.loop-k.k c.loop-k.shorter (omega arith) c.loop-k.invariant.0
