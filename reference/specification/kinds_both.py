@@ -36,7 +36,9 @@ KINDS_BOTH = [
     Kind("other line end", "x\x85\x85.. _b: c", lambda x: has_other_line_end(x, x.ours) or has_other_line_end(x, x.theirs)),
     Kind("stray backtick", "`a\n\nb`_", lambda x: raw(x, x.ours)[:1] == "`" and over_text_blocks(x, x.ours)),
     Kind("blank before the colon", ".. _a : u", _sorts(TARGETS, TARGETS, 
-         lambda o, t, x: o.first[-1:] == " " and normal(o.first) == (t.first or "_"))),
+         lambda o, t, x: o.first[-1:].isspace() and normal(o.first) == (t.first or "_"))),
+    Kind("blanks before the colon", ".. _a  : b:", _sorts(TARGETS, TARGETS,
+         lambda o, t, x: o.first[-1:].isspace() and t.first.startswith(normal(o.first) + " :"))),
     Kind("case and blanks of a name", "`A  b`_", _same_sort(lambda o, t, x: _names(o) == _names(t))),
     Kind("mail address", "`x <a@b.c>`_", _same_sort(lambda o, t, x: t.second == "mailto:" + o.second)),
     Kind("blank inside the backticks", "`a_ `_", lambda x: blank_inside_backticks(raw(x, x.ours))),
@@ -67,6 +69,7 @@ KINDS_BOTH = [
         ["embedded alias", "anonymous"], ["embedded", "embedded anonymous"], lambda o, t, x: ":" in t.second)),
     Kind("blanks behind the colon", ".. _a:  b_", _sorts(BLOCKS, ALIASES, lambda o, t, x: re.match(
         r"\s*(__|\.\. _.*:)( [ \t]|\s*\n)", raw(x, o)))),
+    Kind("alias on a further line", ".. _a: \n b_", _sorts(BLOCKS, ALIASES, lambda o, t, x: "\n" in raw(x, t).strip())),
     Kind("dot, colon or plus in an alias", ".. _a: b.c_", _sorts(BLOCKS, ALIASES, lambda o, t, x: re.search(r"[.:+]", t.second))),
     Kind("two underscores in an alias", ".. _a: b__", _sorts(ALIASES, BLOCKS, lambda o, t, x: t.second.endswith("__"))),
     Kind("further lines of an alias", ".. _a: b_\n v", _sorts(ALIASES, BLOCKS, lambda o, t, x: "\n" in raw(x, t).strip())),
@@ -89,5 +92,6 @@ KINDS_BOTH = [
     Kind("tab in a text", "`a\tb`_", _same_sort(lambda o, t, x: "\t" in raw(x, o) and _squeezed(o) == _squeezed(t))),
     Kind("indent of a further line in a text", "* `a\n  b`_", _same_sort(
         lambda o, t, x: o.sort in REFERENCES and "\n" in raw(x, o) and _squeezed(o) == _squeezed(t))),
+    Kind("reference inside an embedded link of ours", "x`(a_ <u>`_", _sorts(EMBEDDED, PLAIN, lambda o, t, x: o.start < t.start)),
     Kind("hyphens in a simple name", "a--b_", _sorts(PLAIN, PLAIN, lambda o, t, x: "`" not in raw(x, o) + raw(x, t))),
 ]

@@ -2,8 +2,8 @@
 
 import re
 
-from facts import (ESCAPABLE, SKIPPED, Kind, blank_inside_backticks, end_of_reference, has_lone_cr, has_other_blank,
-                   has_other_line_end, line_before, our_link_around, over_text_blocks, raw, starts_line, unescaped_backticks)
+from facts import (ESCAPABLE, SKIPPED, Kind, end_of_reference, has_lone_cr, has_other_blank, has_other_line_end,
+                   line_before, our_link_around, over_text_blocks, raw, starts_line, unescaped_backticks)
 from items import EMBEDDED, REFERENCES, TARGETS
 
 
@@ -62,8 +62,8 @@ KINDS_THEIRS = [
         lambda link, text, x: text[:1] == "`" and over_text_blocks(x, link))),
     Kind("inside an embedded link of ours", "x` a_ b_ <u>`_", _in_our_link(
         lambda link, text, x: link.sort in EMBEDDED and link.start < x.theirs.start)),
-    Kind("further reference between blanks and backticks", "`a_ b_ `_", _in_our_link(
-        lambda link, text, x: blank_inside_backticks(text))),
+    Kind("further reference inside backticks of ours", "`a_ b_ `_", _in_our_link(
+        lambda link, text, x: text[:1] == "`" and link.start < x.theirs.start)),
     Kind("behind a start without an end", "*a_", _behind_error),
     Kind("blanks right before LF", " \na_", _reference(lambda x, text: _line_start_hidden(x))),
     Kind("block behind blanks right before LF", " \n.. _b: c", _block(lambda x, text: _line_start_hidden(x))),
