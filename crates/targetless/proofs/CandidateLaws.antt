@@ -1,15 +1,16 @@
 -- The laws of a block that begins with `.. _` or `__ `, one for each way through the bodies that ask whether it is no target: the text begins with
 -- the line's bytes up to its end, so what is told of the next places is told of the rest of the text.
 -- Assumes nothing.
-use Rattle.std.proofs.Common.{◌≡◌, ℕ, suc, ◌+◌, ◌-◌, ◌<◌, ◌≤◌, List, [], ◌∷◌, ◌++◌, Bool, true, false, Option, Some, None, ◌⊎◌, inl, inr, ⊎_elim, length, get_or, take, drop, length-append, append_assoc, refl, sym, ap, subst, ◌∙◌, arith}
+use Rattle.std.proofs.Common.{◌≡◌, ℕ, zero, suc, ◌+◌, ◌-◌, ◌<◌, ◌≤◌, List, [], ◌∷◌, ◌++◌, Bool, true, false, Option, Some, None, ◌⊎◌, inl, inr, ⊎_elim, length, get_or, take, drop, length-append, append_assoc, refl, sym, ap, subst, ◌∙◌, arith}
 use Rattle.std.specs.Prelude.{IfSome}
 use Rattle.std.specs.Bool.{then_some}
 use mathlib.Core.Path.{subst⁻¹}
 use Rattle.rst_bytes.specs.Tag.{starts_with}
 use Rattle.rst_bytes.specs.Line.{not_line_ending_of}
-use Rattle.std.proofs.lemmas.List.{drop-append-le, take-append-drop}
+use Rattle.std.proofs.lemmas.List.{drop-append-le}
+use Rattle.std.proofs.lemmas.List.Prefix.{end_from_reads}
 use Rattle.std.proofs.lemmas.Option.{IfSome_then}
-use Rattle.rst_bytes.proofs.Lists.{part-from, drop-two, drop-last, drop-end}
+use Rattle.rst_bytes.proofs.Lists.{part-from}
 use Rattle.restructured_text.specs.Block.{three}
 use Rattle.restructured_text.proofs.BlockLaws.{from}
 use Rattle.targetless.specs.declared.verdict.Verdict.{Verdict}
@@ -115,35 +116,23 @@ module _ (before l : List ℕ) (k : ℕ) (blank : Blank (drop k before)) (w : Wa
         subst (λ (i : List ℕ). NoTarget (i ++ (header_of false ++ l))) (part-from before k)
         (strokes-dead indent l indent-blank line.0.0 line.0.1 (told-text is_dead w.near.target l indent on told.near.target indent-blank o j line.0.0 line.0.1))
 
--- The end of a text that ends with a header.
+-- The end of a text that ends with a header: its bytes are read there, the first one n places before the end.
 module _ (s : List ℕ) where
-  pub ends-three :
-      (a b c : ℕ) → 3 ≤ length s → get_or s (length s - 3) 0 ≡ a → get_or s (length s - 2) 0 ≡ b → get_or s (length s - 1) 0 ≡ c
-      → s ≡ take (length s - 3) s ++ a ∷ b ∷ c ∷ []
-  ends-three a b c h e f g =
-      let m = length s - 3 in
-      let y : m + 1 ≡ length s - 2 = omega (arith, h) in
-      let z : m + 2 ≡ length s - 1 = omega (arith, h) in
-      sym (take-append-drop m s)
-      ∙ ap (λ (l : List ℕ). take m s ++ l)
-      (drop-two s m (omega (arith, h))
-      ∙ ap (λ (l : List ℕ). get_or s m 0 ∷ get_or s (m + 1) 0 ∷ l) (drop-last s (m + 2) (omega (arith, h)) (omega (arith, h)))
-      ∙ rw (y, z, e, f, g))
+  abbrev pub Reads : ℕ → List ℕ → Type 0
+  Reads n [] = Unit {0}
+  Reads n (b ∷ l) = (get_or s (length s - n) 0 ≡ b) × Reads (n - 1) l
 
-  pub ends-four :
-      (a b c d : ℕ) → 4 ≤ length s → get_or s (length s - 4) 0 ≡ a → get_or s (length s - 3) 0 ≡ b → get_or s (length s - 2) 0 ≡ c → get_or s (length s - 1) 0 ≡ d
-      → s ≡ take (length s - 4) s ++ a ∷ b ∷ c ∷ d ∷ []
-  ends-four a b c d h e f g i =
-      let m = length s - 4 in
-      let x : m + 1 ≡ length s - 3 = omega (arith, h) in
-      let y : m + 2 ≡ length s - 2 = omega (arith, h) in
-      let z : m + 2 + 1 ≡ length s - 1 = omega (arith, h) in
-      sym (take-append-drop m s)
-      ∙ ap (λ (l : List ℕ). take m s ++ l)
-      (drop-two s m (omega (arith, h))
-      ∙ ap (λ (l : List ℕ). get_or s m 0 ∷ get_or s (m + 1) 0 ∷ l)
-      (drop-two s (m + 2) (omega (arith, h)) ∙ ap (λ (l : List ℕ). get_or s (m + 2) 0 ∷ get_or s (m + 2 + 1) 0 ∷ l) (drop-end s (m + 2 + 2) (omega (arith, h))))
-      ∙ rw (x, z, y, e, f, g, i))
+  each : (l : List ℕ) (n : ℕ) → n ≡ length l → n ≤ length s → Reads n l → (i : ℕ) → i < length l → get_or s (length s - n + i) 0 ≡ get_or l i 0
+  each [] n e h r i k = absurd (omega (arith, k))
+  each (b ∷ l) n e h r zero k =
+      let same : length s - n + 0 ≡ length s - n = omega arith in
+      ap (λ (m : ℕ). get_or s m 0) same ∙ r.0
+  each (b ∷ l) n e h r (suc i) k =
+      let next : length s - n + suc i ≡ length s - (n - 1) + i = omega (arith, e, h) in
+      ap (λ (m : ℕ). get_or s m 0) next ∙ each l (n - 1) (omega (arith, e)) (omega (arith, h)) r.1 i (omega (arith, k))
+
+  pub ends : (l : List ℕ) → length l ≤ length s → Reads (length l) l → s ≡ take (length s - length l) s ++ l
+  ends l h r = end_from_reads 0 s l h (each l (length l) refl h r)
 
 -- a place before the header is one of the text with it
 pub free-front :

@@ -1,6 +1,6 @@
 // The indents that verdicts tell of. A verdict has 127 bits for them, and a text may have blocks of any indent up to its length: so the bits
 // stand for the indents that blocks of this text may have, the shortest first.
-ghost use Rattle.std.specs.Prelude.{◌≡◌, ◌≤◌, ◌<◌, ℕ, get_or, length};
+ghost use Rattle.std.specs.Prelude.{◌≡◌};
 ghost use Rattle.targetless.specs.Indents.{Rising, is_listed, rank_of, within_of};
 
 use rst_bytes::line::is_space;
@@ -16,7 +16,7 @@ impl Indents {
     const LONGEST: usize = 1024;
 
     // How many may be listed.
-    const MOST: usize = 127;
+    const MOST: u8 = 127;
 
     // None is listed.
     pub const NONE: Indents = Indents {
@@ -28,11 +28,11 @@ impl Indents {
         ensures { Rising self.new.ranks }
     {
         note(s, &mut self.ranks);
-        let mut shorter: u8 = 0;
+        let mut shorter = 0;
         for k in 0..self.ranks.len() {
             let noted = self.ranks[k];
             self.ranks[k] = shorter;
-            if noted == 1 && usize::from(shorter) < Indents::MOST {
+            if noted == 1 && shorter < Indents::MOST {
                 shorter += 1;
             }
         }
@@ -51,17 +51,16 @@ impl Indents {
     }
 
     // How many of those that are listed are shorter than k bytes.
-    pub fn rank(&self, k: usize) -> usize
-        ensures rank { result ≡ rank_of self.now.ranks k }
-        ensures small { result < 256 }
+    #[tactic(auto, unfolding(crate::specs::Indents::rank_of))]
+    pub fn rank(&self, k: usize) -> u8
+        ensures { result ≡ rank_of self.now.ranks k }
     {
-        usize::from(self.ranks[k.min(Indents::LONGEST)])
+        self.ranks[k.min(Indents::LONGEST)]
     }
 
     // How many have at most m bytes with three spaces.
-    pub fn within(&self, m: usize) -> usize
-        ensures within { result ≡ within_of self.now.ranks m }
-        ensures small { result < 256 }
+    pub fn within(&self, m: usize) -> u8
+        ensures { result ≡ within_of self.now.ranks m }
     {
         self.rank(m.saturating_sub(2))
     }

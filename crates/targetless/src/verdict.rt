@@ -41,7 +41,7 @@ impl Verdict {
         ensures { result ≡ up_to_of indents.now.ranks m }
     {
         Verdict {
-            bits: ones(indents.within(m) + 1),
+            bits: ones(usize::from(indents.within(m)) + 1),
         }
     }
 
@@ -72,7 +72,7 @@ impl Verdict {
     {
         match indent {
             None => self.is_lone(),
-            Some(k) => indents.lists(k) && bit(self.bits, indents.rank(k) + 1),
+            Some(k) => indents.lists(k) && bit(self.bits, usize::from(indents.rank(k)) + 1),
         }
     }
 
