@@ -232,7 +232,10 @@ typedef struct {
 /* Finds the first link of the document from a place on, which counts as the start
  * of the input, and writes its two strings to the fronts of the two buffers.
  * Nothing is resolved. To go on, call again at place + skipped + consumed, until 9
- * is returned.
+ * is returned. Each call checks the whole document and knows nothing of those
+ * before it, so to read all links this way takes a time that grows with the square
+ * of the length: rst_document() reads them all in one call, and is the one to use
+ * for that.
  *
  * The place may be any number; the document's length is a place, with no link.
  * Refusals: 2, 4, 8, 9, 7; for 7, the size is that of the first string where its

@@ -1,9 +1,10 @@
 -- What is known from a place on (`Each`) stays known further on. What is known of backticks that are never closed by `_ (`Shut`): the loop
--- of `unclosed` learns it, since from each backtick that was passed as an escaped one a part runs on to the same end; and no inline form is
+-- of `part_end` learns it, since from each backtick that was passed as an escaped one a part runs on to the same end; and no inline form is
 -- found where it holds.
 -- Assumes nothing.
-use Rattle.std.specs.Prelude.{Option, Some, None, IfSome, MatchOption}
-use Prim.Native.Nat.{ℕ, ◌+◌, ◌-◌, ◌<◌, ◌≤◌}
+use Rattle.std.specs.Prelude.{Option, Some, None}
+use Prim.Native.Nat.{ℕ, suc, ◌+◌, ◌-◌, ◌<◌, ◌≤◌}
+use Rattle.std.proofs.lemmas.List.{drop-take}
 use native.Mathlib.Nat.{le_refl, le_trans}
 use native.Mathlib.Omega.{arith}
 use mathlib.Core.Path.{◌≡◌, refl, sym, ap, subst, subst⁻¹, ◌∙◌}
@@ -11,14 +12,14 @@ use mathlib.Core.List.{List, [], ◌∷◌}
 use mathlib.Core.Bool.{Bool, true, false, true≢false}
 use mathlib.Core.Logic.{⊎_elim}
 use lib.Dec.{eqb}
-use lib.ListN.{length, get_or, drop}
-use lib.Seq.{drop-drop, get_or-drop}
+use lib.ListN.{length, get_or, drop, take, length-drop}
+use lib.Seq.{drop-drop, get_or-drop, get_or-take, length-take-le}
 use borrow.Author.Tests.{eq-eqb, ne_eqb}
 use Rattle.rst_bytes.specs.Escaped.{is_escapable, is_stop, taking}
 use Rattle.rst_bytes.specs.Tag.{starts_with}
 use Rattle.rst_bytes.proofs.Lists.{drop-next, drop-two, drop-last, drop-end}
 use Rattle.rst_bytes.proofs.TestLaws.{by-test, lt-or-le}
-use Rattle.rst_bytes.proofs.EscapedLaws.{refused-taken, taken_is, taken-from, at-end, at_plain, at-stop, at-alone, at_pair, at-wrong}
+use Rattle.rst_bytes.proofs.EscapedLaws.{refused-taken, taken_is, taken-from, at-end, at_plain, at-stop, at-alone, at_pair, at-wrong, whole-over, cut-rest}
 use Rattle.restructured_text.specs.Delimited.{closing, backticked_of}
 use Rattle.restructured_text.proofs.DelimitedLaws.{delimited-is, backticked-other}
 use Rattle.restructured_text.proofs.InlineLaws.{text2dest-refused, text-label2dest-refused, text2label-refused}
@@ -26,7 +27,7 @@ use Rattle.parse.specs.declared.Known.{Known}
 use Rattle.parse.specs.Link.{Scanned, nothing, behind, or_else}
 use Rattle.parse.specs.Forms.{anonymous, named, reference, tried, rst}
 use Rattle.parse.specs.Scan.{is_opening, opening_of, reference_at, followed, inline_at}
-use Rattle.parse.specs.Inner.{Each, Tick, Any, NoPart, NoLink, NoBlock, Shut, Holds}
+use Rattle.parse.specs.Inner.{Each, Tick, Any, NoPart, NoLink, NoBlock, Shut, RunsTo, Holds}
 use Rattle.parse.proofs.FormsLaws.{tried-next}
 
 -- Any claim of the bytes from a place on.
@@ -64,7 +65,7 @@ Unclosed s i = (m : ℕ) → taking 0x60 0x60 false i (drop i s) ≡ Some m → 
 
 -- a part that is read from behind a backtick before i runs on to i
 abbrev pub Runs : List ℕ → ℕ → Type 0
-Runs s i = (q : ℕ) → q < i → get_or s q 0 ≡ 0x60 → Unclosed s i → Unclosed s (q + 1)
+Runs s i = (q : ℕ) → q < i → get_or s q 0 ≡ 0x60 → taking 0x60 0x60 false (q + 1) (drop (q + 1) s) ≡ taking 0x60 0x60 false i (drop i s)
 
 -- a backtick before a part that is not closed begins nothing
 unclosed-refused : (s : List ℕ) (i : ℕ) → Unclosed s (i + 1) → (anonym : Bool) → backticked_of anonym (drop i s) ≡ None
@@ -79,35 +80,28 @@ unclosed-refused s i f anonym = go (backticked_of anonym (drop i s)) refl
         let c = f (i + 1 + n) (ap (taking 0x60 0x60 false (i + 1)) (sym u) ∙ t) anonym in
         absurd (true≢false (sym d.ends ∙ ap (λ (x : List ℕ). starts_with (closing anonym) (drop n x)) u ∙ ap (starts_with (closing anonym)) (drop-drop n (i + 1) s) ∙ c))
 
--- so what `unclosed` returns where a part ends is right
+-- so what `part_end` says where a part ends and is not closed is right
 pub runs-shut : (s : List ℕ) (i : ℕ) → Runs s i → Unclosed s i → (n : ℕ) → n ≤ i → Shut 0 n s
-runs-shut s i f u n k q h l b anonym = unclosed-refused s q (f q (omega arith) b u) anonym
-
--- what is known of backticks from place i on, or what `unclosed` says of what stands there, t
-pub shut-further :
-    (s t : List ℕ) (i shut r : ℕ) (o : Option ℕ) → t ≡ drop i s → Shut i shut s → IfSome o (λ n. (n ≤ length t) × Shut 0 n t)
-    → MatchOption o (r ≡ shut) (λ n. r ≡ i + n) → Shut i r s
-shut-further s t i shut r None e f g h = subst⁻¹ (λ (n : ℕ). Shut i n s) h f
-shut-further s t i shut r (Some n) e f g h = subst⁻¹ (λ (m : ℕ). Shut i m s) h (each-behind (Tick NoPart) s t i n e g.1)
+runs-shut s i f u n k q h l b anonym = unclosed-refused s q (λ m t. u m (sym (f q (omega arith) b) ∙ t)) anonym
 
 -- a backslash is no backtick
 apart : ◌≡◌ {A = ℕ} 0x5C 0x60 → ⊥
 apart e = omega arith
 
--- The loop of `unclosed`, by the code's tests.
+-- The loop of `part_end`, by the code's tests.
 
 pub runs-start : (s : List ℕ) → Runs s 1
-runs-start s q h b u =
+runs-start s q h b =
     let z : q + 1 ≡ 1 = omega arith in
-    subst⁻¹ (Unclosed s) z u
+    ap (λ (j : ℕ). taking 0x60 0x60 false j (drop j s)) z
 
 module _ (s : List ℕ) (i : ℕ) (f : Runs s i) (h : i < length s) where
   -- a byte that is no backslash and no backtick
   pub runs-plain : (get_or s i 0 ≡ 0x60 → ⊥) → (get_or s i 0 ≡ 0x5C → ⊥) → Runs s (i + 1)
   unfolding is_stop
-  runs-plain a b q l e u =
+  runs-plain a b q l e =
       ⊎_elim
-      (λ g. f q g e (λ m t. u m (sym (at_plain 0x60 0x60 s i h b (simp (ne_eqb _ _ a))) ∙ t)))
+      (λ g. f q g e ∙ at_plain 0x60 0x60 s i h b (simp (ne_eqb _ _ a)))
       (λ g.
       let z : q ≡ i = omega arith in
       absurd (a (ap (λ (j : ℕ). get_or s j 0) (sym z) ∙ e)))
@@ -115,18 +109,48 @@ module _ (s : List ℕ) (i : ℕ) (f : Runs s i) (h : i < length s) where
 
   -- a backslash with a byte that it takes along, which may be a backtick
   pub runs-pair : i + 1 < length s → get_or s i 0 ≡ 0x5C → is_escapable (get_or s (i + 1) 0) ≡ true → Runs s (i + 2)
-  runs-pair k b c q l e u =
+  runs-pair k b c q l e =
       ⊎_elim
-      (λ g. f q g e (λ m t. u m (sym (at_pair 0x60 0x60 s i k b c) ∙ t)))
+      (λ g. f q g e ∙ at_pair 0x60 0x60 s i k b c)
       (λ g. ⊎_elim
       (λ x.
       let z : q ≡ i = omega arith in
       absurd (apart (sym b ∙ ap (λ (j : ℕ). get_or s j 0) (sym z) ∙ e)))
       (λ x.
       let z : q + 1 ≡ i + 2 = omega arith in
-      subst⁻¹ (Unclosed s) z u)
+      ap (λ (j : ℕ). taking 0x60 0x60 false j (drop j s)) z)
       (lt-or-le q (i + 1)))
       (lt-or-le q i)
+
+-- a backslash is no backtick, and a backtick is one
+no-slash : is_stop 0x60 0x60 0x5C ≡ false
+unfolding is_stop
+no-slash = refl
+
+tick-stops : {b : ℕ} → b ≡ 0x60 → is_stop 0x60 0x60 b ≡ true
+unfolding is_stop
+tick-stops {b} e = simp (eq-eqb b 0x60 e)
+
+-- r bytes that are taken as a whole: a backtick among them is one that a backslash takes along
+pub runs-front : (s : List ℕ) (i r : ℕ) → Runs s i → i + r ≤ length s → taking 0x60 0x60 false 0 (take r (drop i s)) ≡ Some r → Runs s (i + r)
+runs-front s i r f h e q l b =
+    ⊎_elim
+    (λ (g : q < i). f q g b ∙ whole-over 0x60 0x60 s i r h e)
+    (λ (g : i ≤ q).
+    let k = q - i in
+    let part = take r (drop i s) in
+    let there : i + k ≡ q = omega arith in
+    let at : get_or part k 0 ≡ 0x60 = get_or-take r (drop i s) k 0 (omega arith) ∙ get_or-drop i s k 0 ∙ ap (λ (n : ℕ). get_or s n 0) there ∙ b in
+    let rest : taking 0x60 0x60 false 0 (drop (suc k) part) ≡ Some (r - suc k) = cut-rest 0x60 0x60 no-slash part r k (omega arith) e (tick-stops at) (omega (arith, length-take-le r (drop i s) (omega (arith, length-drop i s)))) in
+    let size : r ≡ suc k + (r - suc k) = omega arith in
+    let start : i + suc k ≡ q + 1 = omega arith in
+    let is : drop (suc k) part ≡ take (r - suc k) (drop (q + 1) s) =
+    ap (λ (n : ℕ). drop (suc k) (take n (drop i s))) size
+    ∙ drop-take (suc k) (r - suc k) (drop i s)
+    ∙ ap (take (r - suc k)) (drop-drop (suc k) i s ∙ ap (λ (n : ℕ). drop n s) start) in
+    let z : q + 1 + (r - suc k) ≡ i + r = omega arith in
+    whole-over 0x60 0x60 s (q + 1) (r - suc k) (omega arith) (ap (taking 0x60 0x60 false 0) (sym is) ∙ rest) ∙ ap (λ (n : ℕ). taking 0x60 0x60 false n (drop n s)) z)
+    (lt-or-le q i)
 
 -- what is left where the text ends, or at a last backtick, or at one before another byte than '_', is no closing tag
 closing_end : (anonym : Bool) → starts_with (closing anonym) [] ≡ false
@@ -158,6 +182,10 @@ module _ (s : List ℕ) (i : ℕ) where
   stopped : i < length s → get_or s i 0 ≡ 0x60 → taking 0x60 0x60 false i (drop i s) ≡ Some i
   unfolding is_stop
   stopped h e = at-stop 0x60 0x60 s i h (λ f. apart (sym f ∙ e)) (simp (eq-eqb _ _ e))
+
+  -- a part from each backtick before it runs up to that
+  pub runs-to : Runs s i → i < length s → get_or s i 0 ≡ 0x60 → RunsTo i s
+  runs-to f h e q l b = f q l b ∙ stopped h e
 
   -- the text ends
   pub unclosed-end : length s ≤ i → Unclosed s i

@@ -13,14 +13,14 @@ use lib.Seq.{drop-drop, drop-cons, get_or-drop, length-take-le}
 use mathlib.Core.Logic.{⊎_elim}
 use borrow.Author.Tests.{eq-eqb}
 use Rattle.rst_bytes.specs.Escaped.{is_stop, taking, escaped_of}
-use Rattle.rst_bytes.proofs.EscapedLaws.{first-other, at-stop, stop_is, taking-stop, taking-le, cut-front, cut-rest}
+use Rattle.rst_bytes.proofs.EscapedLaws.{first-other, at-stop, stop_is, taking-stop, taking-le, taken_back, cut-front, cut-rest}
 use Rattle.rst_bytes.proofs.TestLaws.{lt-or-le}
 use Rattle.rst_bytes.proofs.TrimLaws.{trim-behind}
 use Rattle.restructured_text.specs.Strings.{Link, link, none, no_room}
 use Rattle.restructured_text.specs.Inline.{embedded_of, text2dest_of, text_label2dest_of}
-use Rattle.restructured_text.proofs.InlineLaws.{text2dest-room, text-label2dest-room, embedded-longer, embedded-unbracketed, embedded-opened}
+use Rattle.restructured_text.proofs.InlineLaws.{text2dest-room, text-label2dest-room, embedded-longer, embedded-unbracketed, embedded-unangled, embedded-opened}
 use Rattle.parse.specs.Forms.{anonymous, named, tried, rst}
-use Rattle.parse.specs.Inner.{Tick, NoLink, Barren, Opened}
+use Rattle.parse.specs.Inner.{Tick, NoLink, Barren, Opened, RunsTo}
 use Rattle.parse.proofs.FormsLaws.{tried-link, tried-next}
 use Rattle.parse.proofs.RoundLaws.{found_nothing}
 use Rattle.parse.proofs.BacktickLaws.{each_none, each-behind}
@@ -115,6 +115,21 @@ barren-unbracketed s n e h f i k l g =
 barren-opened : (s : List ℕ) (n : ℕ) → taking 0x60 0x3C false 0 s ≡ Some n → n < length s → get_or s n 0 ≡ 0x3C → Opened (drop (n + 1) s) → Barren 0 n s
 barren-opened s n e h f o i k l g =
     ap (tried rst.embedded) (at_tick s i (omega arith) g) ∙ unlinked (0x60 ∷ drop (suc i) s) (tick-opened s n i e l g h f o)
+
+-- no > stands at the close
+pub barren-unangled : (s : List ℕ) (n : ℕ) → RunsTo n s → n < length s → (get_or s (n - 1) 0 ≡ 0x3E → ⊥) → Barren 0 n s
+barren-unangled s n r h f i k l g =
+    ap (tried rst.embedded) (at_tick s i (omega arith) g) ∙ unlinked (0x60 ∷ drop (suc i) s) (embedded-unangled (drop (suc i) s) (n - suc i) part last)
+  where
+    part : taking 0x60 0x60 false 0 (drop (suc i) s) ≡ Some (n - suc i)
+    part =
+        let z : i + 1 ≡ suc i = omega arith in
+        (taken_back 0x60 0x60 (suc i) (drop (suc i) s) n (ap (λ (j : ℕ). taking 0x60 0x60 false j (drop j s)) (sym z) ∙ r i l g)).1
+
+    last : (k : ℕ) → k + 1 ≡ n - suc i → get_or (drop (suc i) s) k 0 ≡ 0x3E → ⊥
+    last k e b =
+        let z : suc i + k ≡ n - 1 = omega arith in
+        f (ap (λ (j : ℕ). get_or s j 0) (sym z) ∙ sym (get_or-drop (suc i) s k 0) ∙ b)
 
 -- none begins at the front, a backtick with r behind it, if an unescaped one stands before the first <
 pub unbracketed-none :

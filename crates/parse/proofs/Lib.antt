@@ -7,9 +7,9 @@ pub mod FormsLaws
 pub mod BacktickLaws
 pub mod BarrenLaws
 pub mod BarredLaws
-pub mod LongLaws
 pub mod RoundLaws
 pub mod CalmLaws
+pub mod DullLaws
 pub mod OnwardLaws
 pub mod SingleLaws
 pub mod SizeLaws

@@ -4,11 +4,12 @@
 use Rattle.std.specs.Prelude.{Option, Some, None, Result, Ok, Err}
 use Rattle.restructured_text.specs.declared.ParseError.{ParseError}
 use Rattle.restructured_text.specs.declared.ParseError.TheVariants.{NotFound, NoRoom}
-use Rattle.std.specs.Prelude.{ℕ, ◌+◌, ◌-◌, ◌<◌, ◌≤◌, ◌≡◌, List, [], ◌∷◌, Bool, true, false, ltb, length, drop, get_or}
+use Rattle.std.specs.Prelude.{ℕ, ◌+◌, ◌-◌, ◌<◌, ◌≤◌, ◌≡◌, ◌⊎◌, List, Bool, true, false, not, ◌&&◌, ◌||◌, eqb, ltb, length, drop, get_or}
 use Rattle.std.specs.declared.ops.ControlFlow.{ControlFlow}
 use Rattle.std.specs.declared.ops.ControlFlow.TheVariants.{Break, Continue}
 use Rattle.rst_bytes.specs.Escaped.{taking}
 use Rattle.rst_bytes.specs.Line.{is_space}
+use Rattle.rst_bytes.specs.Word.{is_word}
 use Rattle.restructured_text.specs.declared.Span.{Span}
 use Rattle.restructured_text.specs.Delimited.{backticked_of}
 use Rattle.parse.specs.declared.Known.{Known}
@@ -18,7 +19,7 @@ use Rattle.parse.specs.declared.Link.TheVariants.{Text2Dest, TextLabel2Dest, Tex
 use Rattle.parse.specs.Link.{Kind, found, nothing, found_of, FoundEnds}
 use Rattle.parse.specs.Forms.{tried, rst}
 use Rattle.parse.specs.Refusal.{number_of, bytes_of}
-use Rattle.parse.specs.Scan.{Round, ends, passes, is_lf, is_plain, rounds}
+use Rattle.parse.specs.Scan.{Round, ends, passes, is_lf, lfs_of, is_opening, is_plain, rounds}
 use Rattle.parse.specs.Single.{Outcome, refusal, acceptance, handed}
 
 -- from place m on and before place n of s the claim holds of each byte and what begins with it
@@ -58,6 +59,15 @@ Blockless m n s = Each (Any NoBlock) m n s
 abbrev pub Barred : List ℕ → List ℕ → Type 0
 Barred marks s = (k : ℕ) → get_or marks k 0 ≡ 1 → NoBlock (drop k s)
 
+-- from behind each backtick before place n of s a part is read up to n
+abbrev pub RunsTo : ℕ → List ℕ → Type 0
+RunsTo n s = (i : ℕ) → i < n → get_or s i 0 ≡ 0x60 → taking 0x60 0x60 false (i + 1) (drop (i + 1) s) ≡ Some n
+
+-- the part that begins with the first byte of s, a backtick: its close stands at place n, or none before n begins a part that is closed
+abbrev pub PartEnds : List ℕ → Result ℕ ℕ → Type 0
+PartEnds s (Ok n) = (0 < n) × (n < length s) × RunsTo n s
+PartEnds s (Err n) = (0 < n) × (n ≤ length s) × Shut 0 n s
+
 -- the first unescaped backtick or < is <
 abbrev pub Opened : List ℕ → Type 0
 Opened s = (n : ℕ) × (taking 0x60 0x3C false 0 s ≡ Some n) × (n < length s) × (get_or s n 0 ≡ 0x3C)
@@ -70,15 +80,6 @@ Holds m known marks s =
 -- what is known of every text; no contract cites it, but laws of the layer above do
 abbrev pub nothing_known : Known
 nothing_known = record { shut = 0; barren = 0; blocks = 0; failed = 0; marked = 0 }
-
--- a block may be long: of its line n bytes are passed, and it has more than 128, or the next line begins with a blank
-unfoldable pub long_from : ℕ → List ℕ → Bool
-long_from n [] = false
-long_from n (b ∷ rest) =
-    elim (is_lf b) [
-      | true ↦ is_space (get_or rest 0 0)
-      | false ↦ elim (ltb n 128) [ true ↦ long_from (n + 1) rest | false ↦ true ]
-    ]
 
 -- what is known, with places counted from place n on
 abbrev pub known_from : ℕ → Known → Known
@@ -132,6 +133,10 @@ StepEnds (Continue c) = Unit {0}
 abbrev pub Behind : (ℕ → Bool) → ℕ → List ℕ → Type 0
 Behind f j s = (j < length s) × (0 < j) × (is_plain (get_or s (j - 1) 0) ≡ true) × (f (get_or s j 0) ≡ true)
 
+-- n LFs stand at the front of s, and then no block begins, or there are none
+abbrev pub LineStart : ℕ → List ℕ → Type 0
+LineStart n s = (n ≤ length s) × (n ≡ lfs_of s) × (NoBlock (drop n s) ⊎ (n ≡ 0))
+
 -- the rounds from place i on of s are those from place j on
 abbrev pub Skips : Bool → ℕ → ℕ → List ℕ → Type 0
 Skips start i j s = (i ≤ j) × (j ≤ length s) × (i < j → rounds rst 0 start i (drop i s) ≡ rounds rst 0 false j (drop j s))
@@ -139,6 +144,17 @@ Skips start i j s = (i ≤ j) × (j ≤ length s) × (i < j → rounds rst 0 sta
 -- and place j is behind place i, unless s ends at i
 abbrev pub Passes : Bool → ℕ → ℕ → List ℕ → Type 0
 Passes start i j s = (i < length s → i < j) × Skips start i j s
+
+-- no byte from place i up to place j of s is LF or a blank, nor a backtick but before place n; and s ends at j, or (f) stops there
+pub record Dull (n i j : ℕ) (s : List ℕ) : Type 0 where
+  pub behind : i ≤ j
+  pub within : j ≤ length s
+  pub dull : (k : ℕ) → i ≤ k → k < j → (is_lf (get_or s k 0) ≡ false) × (is_space (get_or s k 0) ≡ false) × (get_or s k 0 ≡ 0x60 → k < n)
+  pub edge : (length s ≡ j) ⊎ ((j < length s) × (is_plain (get_or s j 0) ≡ false))
+
+-- no LF, no backtick, none of the bytes that (e) skips, and below 80 no word character
+unfoldable pub is_void : ℕ → Bool
+is_void b = ltb b 0x80 && not (is_lf b || (eqb b 0x60 || (is_opening b || is_word b)))
 
 -- where the strings of a link stand
 abbrev pub first_of : Link → Span

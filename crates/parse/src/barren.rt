@@ -1,12 +1,10 @@
 // Backticks at which no embedded link begins. A part that runs to its close passes escaped backticks only, and from each of these a part
 // would run to the same close. Up to the first `<` it would also have the same target and a text that ends alike: so where the
-// first backtick begins no link, none of them does. Where no `<` stands before the close none begins, and where two do none begins
-// before the first: so no part is tried more than twice.
-ghost use Rattle.std.specs.Prelude.{◌≡◌, true, false, ◌≤◌, ◌<◌, length, get_or};
+// first backtick begins no link, none of them does. Where no `<` stands before the close none begins, nor where no `>` stands at it, and where two
+// `<` do none begins before the first: so no part is tried more than twice.
+ghost use Rattle.std.specs.Prelude.{◌≡◌, true, false, ◌≤◌, ◌<◌, length, get_or, IfSome};
 ghost use Rattle.rst_bytes.specs.Escaped.{taking};
-ghost use Rattle.parse.specs.Link.{nothing};
-ghost use Rattle.parse.specs.Forms.{tried, rst};
-ghost use Rattle.parse.specs.Inner.{Barren, Opened};
+ghost use Rattle.parse.specs.Inner.{NoLink, Barren, Opened, RunsTo};
 
 use rst_bytes::escaped::escaped;
 use rst_bytes::free::is_stop;
@@ -23,13 +21,20 @@ fn marked(s: &[u8]) -> Option<usize>
     }
 }
 
-// Whether an embedded link may begin at the first byte, a backtick: no unescaped backtick stands before the first unescaped `<`.
-pub fn is_bracketed(s: &[u8]) -> bool
-    requires { (0 < length s.now) × (get_or s.now 0 0 ≡ 0x60) }
-    ensures { result ≡ false → tried rst.embedded s.now ≡ nothing }
+// A place before which no backtick begins an embedded link, for a text that begins with a backtick, whose part is closed at place n: if the part
+// does not end in `>`, or has no unescaped `<`.
+pub fn unlinked(s: &[u8], n: usize) -> Option<usize>
+    requires tick { (0 < length s.now) × (get_or s.now 0 0 ≡ 0x60) }
+    requires closed { (0 < n) × (n < length s.now) × RunsTo n s.now }
+    ensures { IfSome result (λ m. (0 < m) × (m ≤ length s.now) × Barren 0 m s.now) }
 {
-    let rest = &s[1..];
-    marked(rest).is_none_or(|n| rest.get(n) != Some(&b'`'))
+    if s[n - 1] != b'>' {
+        return Some(n);
+    }
+    match marked(&s[1..]) {
+        Some(m) if s.get(m + 1) == Some(&b'`') => Some(m + 1),
+        _ => None,
+    }
 }
 
 // Whether the first unescaped backtick or `<` is `<`.
@@ -67,7 +72,7 @@ fn unbracketed(s: &[u8]) -> usize
 // A place before which no backtick begins one, where none begins at the first byte, a backtick.
 pub fn barren(s: &[u8]) -> usize
     requires tick { (0 < length s.now) × (get_or s.now 0 0 ≡ 0x60) }
-    requires none { tried rst.embedded s.now ≡ nothing }
+    requires none { NoLink s.now }
     ensures within { result ≤ length s.now }
     ensures barren { Barren 0 result s.now }
 {

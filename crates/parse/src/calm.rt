@@ -1,13 +1,16 @@
 // Text in which no link starts. A link has a `_` on the line where it starts, or begins with a backtick: so lines without either are
 // passed at once, and no round is made in them. A link that is no block has it in the word where it starts: so on the line of the next
-// `_` or backtick the words before that one are passed too.
+// `_` or backtick the words before that one are passed too, where no block begins with the line.
 ghost use Rattle.std.specs.Prelude.{◌≡◌, Bool, true, false, ◌-◌, ◌≤◌, ◌<◌, length, get_or, IfSome};
 ghost use Rattle.rst_bytes.specs.Line.{is_space};
 ghost use Rattle.parse.specs.Scan.{is_plain, is_lf};
-ghost use Rattle.parse.specs.Inner.{Behind, Passes};
+ghost use Rattle.parse.specs.Inner.{Barren, Behind, LineStart, Passes};
 
-use crate::rounds::is_start;
-use rst_bytes::free::is_stop;
+use crate::dull::pass_dull;
+use crate::rounds::{is_start, newlines};
+use memchr::memchr2;
+use restructured_text::target::starts_target;
+use rst_bytes::free::free_front;
 use rst_bytes::line::is_space;
 
 // Whether place j is behind another byte than those at which (f) stops.
@@ -51,6 +54,18 @@ fn last_word(s: &[u8], i: usize, k: usize) -> Option<usize>
     (i + 1..k).rev().find(|&j| ends_word(s, j))
 }
 
+// How many LFs stand at the front, if there are none or no target starts behind them.
+#[tactic(auto, using(crate::proofs::CalmLaws::lfs_within, crate::proofs::BarredLaws::unstarted))]
+fn line_start(s: &[u8]) -> Option<usize>
+    ensures { IfSome result (λ n. LineStart n s.now) }
+{
+    match newlines(s) {
+        0 => Some(0),
+        n if starts_target(&s[n..]) => None,
+        n => Some(n),
+    }
+}
+
 // What was looked for: the places up to which there is no other line, and no other word, to pass.
 #[derive(Clone, Copy, Default)]
 pub struct Calm {
@@ -59,15 +74,14 @@ pub struct Calm {
 }
 
 impl Calm {
-    // Passes the lines from place i on that have neither `_` nor backtick: the place behind them, if there are any. Where it is inlined, its
-    // loop sets the answer's variant at each byte, and plain text takes a third longer.
-    #[inline(never)]
+    // Passes the lines from place i on that have neither `_` nor backtick: the place behind them, if there are any.
     fn pass_lines(&mut self, s: &[u8], i: usize) -> Option<usize>
         requires { i ≤ length s.now }
         ensures { IfSome result (λ j. (start : Bool) → Passes start i j s.now) }
     {
-        match (i..s.len()).find(|&k| is_stop(b'_', b'`', s[k])) {
-            Some(k) => {
+        match memchr2(b'_', b'`', &s[i..]) {
+            Some(n) => {
+                let k = i + n;
                 self.lines = k + 1;
                 last_line(s, i, k)
             }
@@ -78,24 +92,34 @@ impl Calm {
         }
     }
 
-    // Passes the words from place i on that stand before that of the next `_` or backtick, or before the last one of the line.
+    // Passes the words from place i on that stand before that of the next `_` or backtick, or before the last one of the line; of the next line,
+    // if LF stands at i and no target starts there.
     fn pass_words(&mut self, s: &[u8], i: usize) -> Option<usize>
         requires { i ≤ length s.now }
         ensures { IfSome result (λ j. Passes false i j s.now) }
     {
-        let k = (i..s.len())
-            .find(|&k| is_stop(b'_', b'`', s[k]) || s[k] == b'\n')
-            .unwrap_or(s.len());
+        let a = i + line_start(&s[i..])?;
+        let k = a + free_front(&s[a..], b'_', b'`', b'\n');
         self.words = k;
-        last_word(s, i, k)
+        last_word(s, a, k)
     }
 
     // Passes lines from place i on, or else words, where i is no start: the place behind them, if there are any. Neither is looked for where
-    // an earlier call found that there is none before a later place.
-    pub fn pass(&mut self, s: &[u8], i: usize, start: bool) -> Option<usize>
-        requires { i ≤ length s.now }
+    // an earlier call found that there is none before a later place. Where it is known of backticks that no embedded link begins at them, other
+    // text may be passed before.
+    pub fn pass(&mut self, s: &[u8], i: usize, start: bool, barren: usize) -> Option<usize>
+        requires inside { i ≤ length s.now }
+        requires barren { Barren i barren s.now }
         ensures { IfSome result (λ j. Passes start i j s.now) }
     {
+        if i < barren && !start {
+            if let Some(next) = pass_dull(s, i, barren) {
+                return Some(next);
+            }
+        }
+        if matches!(s.get(i), Some(b'_' | b'`')) {
+            return None;
+        }
         if self.lines <= i {
             if let Some(next) = self.pass_lines(s, i) {
                 return Some(next);

@@ -1,21 +1,18 @@
 // The forms that are tried at one place, in their order. The scratch is as long as the text, so that no parser lacks room: an error of one
 // says that its form is not there.
-ghost use Rattle.std.specs.Prelude.{◌≡◌, ◌+◌, ◌≤◌, length, take, drop, get_or};
-ghost use Rattle.rst_bytes.specs.Line.{is_space};
+ghost use Rattle.std.specs.Prelude.{◌≡◌, ◌+◌, ◌≤◌, length, take, drop};
 ghost use Rattle.parse.specs.Link.{found_of, FoundEnds, behind};
 ghost use Rattle.parse.specs.Forms.{tried, rst};
 ghost use Rattle.parse.specs.Scan.{consumed_of};
-ghost use Rattle.parse.specs.Inner.{Holds, long_from};
+ghost use Rattle.parse.specs.Inner.{Holds};
 ghost use Rattle.parse.specs.Place.{rest_of, found_at, Ready, Learns};
 
 use crate::place::Place;
 use crate::{Known, Link};
+use memchr::memchr;
 use restructured_text::inline::{rst_text_label2dest, rst_text2dest, rst_text2label};
 use restructured_text::target::{Definition, rst_target};
 use rst_bytes::line::is_space;
-
-// The longest line on which a block takes next to no time to read.
-const SHORT_LINE_LEN_MAX: usize = 128;
 
 // An alias block, else a destination block. No block is both: so both are read at once.
 pub fn block(place: Place, scratch: &mut [u8]) -> Option<Link>
@@ -29,26 +26,19 @@ pub fn block(place: Place, scratch: &mut [u8]) -> Option<Link>
     }
 }
 
-// Whether a blank stands at place i.
-fn is_blank_at(s: &[u8], i: usize) -> bool
-    ensures { result ≡ is_space (get_or s.now i 0) }
-{
-    s.get(i).is_some_and(|&b| is_space(b))
-}
-
-// Whether a block at the front may take long to read: its line has more than 128 bytes, or the next one begins with a blank and may be a
-// further line of it.
-pub fn is_long(s: &[u8]) -> bool
-    ensures { result ≡ long_from 0 s.now }
-{
-    match s
-        .iter()
-        .take(SHORT_LINE_LEN_MAX + 1)
-        .position(|&b| b == b'\n')
-    {
-        Some(i) => is_blank_at(s, i + 1),
-        None => SHORT_LINE_LEN_MAX < s.len(),
+// How many bytes a block at the front may have, if one begins: those up to a line that begins with no blank, which is no further line. It has no
+// contract, since no answer hangs on it.
+pub fn reach(s: &[u8]) -> usize {
+    let mut i = 0;
+    // No `for`: a turn takes a line.
+    while i < s.len() {
+        i += memchr(b'\n', &s[i..]).unwrap_or(s.len() - i);
+        if !s.get(i + 1).is_some_and(|&b| is_space(b)) {
+            return i;
+        }
+        i += 1;
     }
+    i
 }
 
 // How many bytes a link of n bytes consumes with the destination block that stands directly behind it, if one does. What stands in the
@@ -65,11 +55,7 @@ fn with_unreported(place: Place, n: usize, scratch: &mut [u8], known: &mut Known
         match rst_target(rest, &mut scratch[n..]) {
             Ok(Definition::Alias(_, _, _)) => return n,
             Ok(Definition::Destination(_, _, m)) => return n + m,
-            Err(_) => {
-                if is_long(rest) {
-                    known.count_failed();
-                }
-            }
+            Err(_) => known.add_failed(place.at + n, rest),
         }
     }
     known.blocks = place.at + n + 1;

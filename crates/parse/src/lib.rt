@@ -8,6 +8,7 @@ mod backtick;
 mod barren;
 mod buffers;
 mod calm;
+mod dull;
 mod forms;
 mod onward;
 mod place;
@@ -22,6 +23,7 @@ ghost use Rattle.parse.specs.Inner.{first_of, second_of, link_end, Holds, TrueBe
 
 use crate::buffers::{hand_over, is_place};
 use crate::calm::Calm;
+use crate::forms::reach;
 use crate::onward::next_of;
 use crate::place::Place;
 pub use crate::refusal::Refusal;
@@ -65,8 +67,8 @@ impl Link {
 }
 
 // What is known from a place on: before `shut` no backtick begins a part that is closed, before `barren` none begins an embedded link,
-// before `blocks` no block begins. Of the others no claim is made: how many long blocks were read that are none, and the place before
-// which those places are marked at which none begins.
+// before `blocks` no block begins. Of the others no claim is made: how many bytes the blocks may have that were read and are none, and the place
+// before which those places are marked at which none begins.
 #[derive(Clone, Copy, Debug, Default, PartialEq, Eq)]
 pub struct Known {
     pub shut: usize,
@@ -76,23 +78,25 @@ pub struct Known {
     pub marked: usize,
 }
 
-// How many long blocks are read that are none before the places are marked at which none begins.
-const FAILED_MAX: usize = 4;
+// How many bytes the blocks have that were read and are none, at the least, before the places are marked at which none begins.
+const FAILED_LEAST: usize = 1024;
 
 impl Known {
-    // One more of the long blocks that were read and are none.
-    fn count_failed(&mut self)
+    // The block at place i, where s stands, was read and is none. Where the places are marked it counts no more.
+    fn add_failed(&mut self, i: usize, s: &[u8])
         ensures { self.new ≡ record self.old { failed = self.new.failed } }
     {
-        self.failed = self.failed.saturating_add(1);
+        if self.marked <= i {
+            self.failed = self.failed.saturating_add(reach(s));
+        }
     }
 
-    // Marks the places of s at which no block begins, once so many long ones were read that are none and place i is not among those that
-    // are marked. What was known is known then too.
+    // Marks the places of s at which no block begins, once the blocks that are none may have had half as many bytes as s has, and place i is not among
+    // those that are marked. What was known is known then too.
     fn mark(&mut self, s: &[u8], i: usize, marks: &mut [u8])
         ensures { (m : ℕ) → Holds m self.old marks.old s.now → Holds m self.new marks.new s.now }
     {
-        if FAILED_MAX <= self.failed && self.marked <= i {
+        if (s.len() / 2).max(FAILED_LEAST) <= self.failed && self.marked <= i {
             mark(s, marks);
             self.marked = s.len();
         }
@@ -102,12 +106,17 @@ impl Known {
 // The longest document.
 pub const DOCUMENT_LEN_MAX: usize = 16384;
 
-// The first link of s, which counts as the start of the input; its strings are left in the scratch.
+// The first link of s, which counts as the start of the input; its strings are left in the scratch. There is no room for marks, so none are
+// to be made.
 pub fn take_link(s: &[u8], scratch: &mut [u8]) -> Result<Link, ParseError>
     ensures scan { scanned_of result scratch.new ≡ lent s.now scratch.old (scan_of s.now) }
     ensures ends { Ends result }
 {
-    next_link(s, scratch, &mut [], &mut Known::default())
+    let mut known = Known {
+        marked: s.len(),
+        ..Known::default()
+    };
+    next_link(s, scratch, &mut [], &mut known)
 }
 
 // The same where something is known; where a link is found, `known` is left as what is known behind it. It is `iterator` that goes from link
@@ -132,7 +141,7 @@ pub fn next_link(
     let mut calm = Calm::default();
     // No `for`: a turn passes as many bytes as it finds.
     while i < s.len() {
-        i = match calm.pass(s, i, input_start) {
+        i = match calm.pass(s, i, input_start, known.barren) {
             Some(next) => next,
             None => {
                 known.mark(s, i, marks);

@@ -2,12 +2,12 @@
 //
 // A step takes a place of the text; one that tries parsers is also lent a scratch as long as the text. It breaks with what was found, or
 // goes on. What an earlier round learnt is handed on as places, so that the text before them is not read again and again; and with a link
-// that no block begins behind it. Once several long blocks were read that are none, the places of the text are marked at which none
+// that no block begins behind it. Once much was read of blocks that are none, the places of the text are marked at which none
 // begins: there none is read.
 ghost use Rattle.std.specs.Prelude.{◌≡◌, true, false, ◌<◌, length, get_or};
 ghost use Rattle.rst_bytes.specs.Line.{bytes_from};
-ghost use Rattle.parse.specs.Link.{nothing, found_of, FoundEnds, behind};
-ghost use Rattle.parse.specs.Forms.{tried, rst};
+ghost use Rattle.parse.specs.Link.{found_of, FoundEnds, behind};
+ghost use Rattle.parse.specs.Forms.{rst};
 ghost use Rattle.parse.specs.Scan.{
   lfs_of,
   block_at,
@@ -24,19 +24,19 @@ ghost use Rattle.parse.specs.Scan.{
   round_of,
   later,
 };
-ghost use Rattle.parse.specs.Inner.{Shut, Barren, Holds, going_on, step_of, StepEnds};
+ghost use Rattle.parse.specs.Inner.{NoLink, Barren, Holds, going_on, step_of, StepEnds};
 ghost use Rattle.parse.specs.Place.{rest_of, IsTick, found_at, Ready, Learns, StepHolds};
 
-use crate::backtick::unclosed;
-use crate::barren::{barren, is_bracketed};
-use crate::forms::{block, embedded, is_long, reference};
+use crate::backtick::part_end;
+use crate::barren::{barren, unlinked};
+use crate::forms::{block, embedded, reference};
 use crate::place::Place;
 use crate::{Known, Link};
 use rst_bytes::line::space0;
 use std::ops::ControlFlow;
 
 // (a) How many LFs stand at the front.
-fn newlines(s: &[u8]) -> usize
+pub fn newlines(s: &[u8]) -> usize
     ensures { result ≡ lfs_of s.now }
 {
     s.iter().take_while(|&&b| b == b'\n').count()
@@ -50,7 +50,7 @@ fn is_read(place: Place, line: bool, known: Known) -> bool
     line && known.blocks <= place.at && place.may_begin(0)
 }
 
-// (b) A block, if it is to be read. One that is none counts if it is long.
+// (b) A block, if it is to be read. One that is none was read in vain.
 fn block_step(
     place: Place,
     scratch: &mut [u8],
@@ -69,15 +69,13 @@ fn block_step(
     if let Some(x) = block(place, scratch) {
         return ControlFlow::Break(Some(x));
     }
-    if is_long(place.rest()) {
-        known.count_failed();
-    }
+    known.add_failed(place.at, place.rest());
     ControlFlow::Continue(())
 }
 
 // (e) One of `([<'"`.
 #[tactic(auto, unfolding(crate::specs::Scan::is_opening))]
-fn is_opening(b: u8) -> bool
+pub fn is_opening(b: u8) -> bool
     ensures { result ≡ is_opening b }
 {
     matches!(b, b'(' | b'[' | b'<' | b'\'' | b'"')
@@ -103,21 +101,6 @@ fn reference_at(
     reference(place, scratch, known)
 }
 
-// (d) at a backtick.
-fn embedded_at(place: Place, scratch: &mut [u8], known: &mut Known) -> Option<Link>
-    requires tick { IsTick place }
-    requires ready { Ready place known.old scratch.old }
-    ensures scan { found_of result scratch.new ≡ found_at place.entry (tried rst.embedded (rest_of place.entry)) }
-    ensures ends { FoundEnds result }
-    ensures known { Learns place.entry known.old known.new result }
-{
-    if is_bracketed(place.rest()) {
-        embedded(place, scratch, known)
-    } else {
-        None
-    }
-}
-
 // (d) and (e) at a backtick.
 fn inline_at(place: Place, scratch: &mut [u8], spaced: bool, known: &mut Known) -> Option<Link>
     requires tick { IsTick place }
@@ -126,7 +109,7 @@ fn inline_at(place: Place, scratch: &mut [u8], spaced: bool, known: &mut Known) 
     ensures ends { FoundEnds result }
     ensures known { Learns place.entry known.old known.new result }
 {
-    if let Some(x) = embedded_at(place, scratch, known) {
+    if let Some(x) = embedded(place, scratch, known) {
         return Some(x);
     }
     reference_at(place, scratch, spaced, known)
@@ -141,7 +124,7 @@ pub fn is_start(b: u8) -> bool
 }
 
 // (f) How many other bytes stand at the front.
-fn plain(s: &[u8]) -> usize
+pub fn plain(s: &[u8]) -> usize
     ensures { result ≡ bytes_from is_plain 0 s.now }
 {
     s.iter().take_while(|&&b| !is_start(b)).count()
@@ -156,26 +139,34 @@ fn passed(place: Place) -> usize
     place.at + 1 + n
 }
 
-// What is known of backticks from a place on, once the one that stands there was looked at.
-fn shut_from(place: Place, shut: usize) -> usize
-    requires { Shut place.at shut place.text.now }
-    ensures { Shut place.entry.at result place.entry.text.now }
-{
-    if place.at < shut {
-        shut
-    } else {
-        unclosed(place.rest()).map_or(shut, |n| place.at + n)
-    }
-}
-
 // Whether an embedded link may begin at a place: there is a backtick, and it is not known that none does.
 fn may_embed(place: Place, barren: usize) -> bool
     requires inside { place.at < length place.text.now }
     requires barren { Barren place.at barren place.text.now }
     ensures tick { result ≡ true → get_or place.entry.text.now place.entry.at 0 ≡ 0x60 }
-    ensures none { result ≡ false → tried rst.embedded (rest_of place.entry) ≡ nothing }
+    ensures none { result ≡ false → NoLink (rest_of place.entry) }
 {
     place.byte() == b'`' && barren <= place.at
+}
+
+// (e) and (f) where (d) finds nothing.
+fn reference_round(
+    place: Place,
+    scratch: &mut [u8],
+    spaced: bool,
+    known: &mut Known,
+) -> ControlFlow<Option<Link>, usize>
+    requires inside { place.at < length place.text.now }
+    requires none { NoLink (rest_of place) }
+    requires ready { Ready place known.old scratch.old }
+    ensures step { step_of result scratch.new ≡ later place.entry.at (text_round rst spaced (rest_of place.entry)) }
+    ensures ends { StepEnds result }
+    ensures known { StepHolds place.entry known.new (λ next. next) result }
+{
+    match reference_at(place, scratch, spaced, known) {
+        Some(x) => ControlFlow::Break(Some(x)),
+        None => ControlFlow::Continue(passed(place)),
+    }
 }
 
 // (d) to (f) at a backtick.
@@ -191,15 +182,23 @@ fn backtick_round(
     ensures ends { StepEnds result }
     ensures known { StepHolds place.entry known.new (λ next. next) result }
 {
-    let shut = shut_from(place, known.shut);
-    if place.at < shut {
-        known.shut = shut;
+    if place.at < known.shut {
         return ControlFlow::Continue(passed(place));
+    }
+    let close = match part_end(place.rest()) {
+        Ok(n) => n,
+        Err(n) => {
+            known.shut = place.at + n;
+            return ControlFlow::Continue(passed(place));
+        }
+    };
+    if let Some(n) = unlinked(place.rest(), close) {
+        known.barren = place.at + n;
+        return reference_round(place, scratch, spaced, known);
     }
     if let Some(x) = inline_at(place, scratch, spaced, known) {
         return ControlFlow::Break(Some(x));
     }
-    known.shut = shut;
     known.barren = place.at + barren(place.rest());
     ControlFlow::Continue(passed(place))
 }
@@ -220,11 +219,9 @@ fn text_round(
         return ControlFlow::Break(None);
     }
     if may_embed(place, known.barren) {
-        return backtick_round(place, scratch, spaced, known);
-    }
-    match reference_at(place, scratch, spaced, known) {
-        Some(x) => ControlFlow::Break(Some(x)),
-        None => ControlFlow::Continue(passed(place)),
+        backtick_round(place, scratch, spaced, known)
+    } else {
+        reference_round(place, scratch, spaced, known)
     }
 }
 

@@ -23,11 +23,11 @@ use Rattle.rst_bytes.proofs.TagLaws.{starts-free, starts-byte, starts-lf}
 use Rattle.rst_bytes.proofs.WordLaws.{word-within, word-ended}
 use Rattle.restructured_text.specs.Calm.{calm, Parted, Ended}
 use Rattle.restructured_text.specs.Delimited.{ends_with, closing, backticked_of}
-use Rattle.restructured_text.specs.Label.{word_label_of}
+use Rattle.restructured_text.specs.Label.{word_label_of, run_label_of}
 use Rattle.restructured_text.specs.Strings.{none}
 use Rattle.restructured_text.specs.Inline.{finished_of, text2dest_of, text_label2dest_of, text2label_of}
 use Rattle.restructured_text.specs.Target.{label2dest_of, label2label_of, starts_target}
-use Rattle.restructured_text.proofs.DelimitedLaws.{delimited-none}
+use Rattle.restructured_text.proofs.DelimitedLaws.{delimited-none, backticked-other}
 use Rattle.restructured_text.proofs.Text2targetLaws.{form-none}
 use Rattle.restructured_text.proofs.LabelLaws.{word_none, raw_word, simple-none, form-simple, reference-none}
 use Rattle.restructured_text.proofs.InlineLaws.{text2dest-refused, text-label2dest-refused}
@@ -108,6 +108,15 @@ module _ (x z : List ℕ) (h : calm x ≡ true) (e : Parted z) where
       (reference-none (x ++ z)
       (form-simple (x ++ z) None (form-none false true (x ++ z) (no-backtick false))
       (simple-none (x ++ z) (raw_word (x ++ z) (no-backtick false) ∙ no_word))))
+
+-- at a byte that is no backtick and begins no word there is no reference
+pub void-text2label : (b : ℕ) (l : List ℕ) → (b ≡ 0x60 → ⊥) → word_of (b ∷ l) ≡ 0 → text2label_of (b ∷ l) ≡ none
+unfolding text2label_of word_label_of ends_with
+void-text2label b l h e =
+    let tick = backticked-other false b l h in
+    let word : word_label_of (b ∷ l) ≡ None = ap (λ (w : ℕ). run_label_of w (take w (b ∷ l))) e in
+    ap (finished_of false (b ∷ l))
+    (reference-none (b ∷ l) (form-simple (b ∷ l) None (form-none false true (b ∷ l) tick) (simple-none (b ∷ l) (raw_word (b ∷ l) tick ∙ word))))
 
 -- A calm text x, and z: nothing, or LF and more.
 module _ (x z : List ℕ) (h : calm x ≡ true) (e : Ended z) where

@@ -25,7 +25,7 @@ use Rattle.restructured_text.specs.Label.{parse_text2label_of}
 use Rattle.restructured_text.specs.Inline.{finished_of, embedded_of, text2dest_of, text_label2dest_of, text2label_of}
 use Rattle.restructured_text.proofs.TransformLaws.{text-over}
 use Rattle.restructured_text.proofs.StringsLaws.{none-link, none-room, linked-append, linked-front, linked-le, linked-room, lent-enough}
-use Rattle.restructured_text.proofs.Text2targetLaws.{form-none, Apart, Longer, ticked, angled, text2target-apart, text2target-lf, text2target-longer, text2target-unbracketed, text2target-opened}
+use Rattle.restructured_text.proofs.Text2targetLaws.{form-none, Apart, Longer, ticked, angled, text2target-apart, text2target-lf, text2target-longer, text2target-unbracketed, text2target-unangled, text2target-opened}
 use Rattle.restructured_text.proofs.LabelLaws.{Placed, reference-refused, reference-placed, reference-lf}
 
 -- Two spans within the n bytes, at least one, that are consumed of a text of `size` bytes.
@@ -194,6 +194,10 @@ module _ (l s : List ℕ) (some : 0 < length l) (open-taken : taking 0x60 0x3C f
 -- Nor is there one where no < stands before the next unescaped backtick.
 pub embedded-unbracketed : (s : List ℕ) (k : ℕ) → taking 0x60 0x3C false 0 s ≡ Some k → k < length s → get_or s k 0 ≡ 0x60 → (anonym : Bool) → embedded_of anonym (0x60 ∷ s) ≡ none
 embedded-unbracketed s k e h f anonym = ap (finished_of true (0x60 ∷ s)) (text2target-unbracketed anonym false s k e h f)
+
+-- Nor where the part that the backtick begins does not end in >.
+pub embedded-unangled : (s : List ℕ) (n : ℕ) → taking 0x60 0x60 false 0 s ≡ Some n → ((k : ℕ) → k + 1 ≡ n → get_or s k 0 ≡ 0x3E → ⊥) → (anonym : Bool) → embedded_of anonym (0x60 ∷ s) ≡ none
+embedded-unangled s n e h anonym = ap (finished_of true (0x60 ∷ s)) (text2target-unangled anonym false s n e h)
 
 -- Nor where two do: at place m, and j bytes behind it.
 pub embedded-opened :

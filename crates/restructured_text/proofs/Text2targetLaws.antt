@@ -394,6 +394,40 @@ target_free r k e h f =
     ∙ at_plain 0x3C 0x3C r k (omega arith) (λ (g : get_or r k 0 ≡ 0x5C). absurd (omega (arith, f, g))) (rw f refl)
     ∙ at-end 0x3C 0x3C r (k + 1) (omega arith)
 
+-- A text that does not end in > holds no target in brackets.
+inside-unangled : (label : Bool) (t : List ℕ) → ((k : ℕ) → k + 1 ≡ length t → get_or t k 0 ≡ 0x3E → ⊥) → inside_of label t ≡ None
+inside-unangled label t h = text (escaped_of 0x3C 0x3C t) refl
+  where
+    not-all : (m k : ℕ) → delimited_of (0x3C ∷ []) 0x3C 0x3E (0x3E ∷ []) (drop m t) ≡ Some k → k + 2 ≡ length (drop m t) → ⊥
+    not-all m k g i =
+        let d = delimited-is (0x3C ∷ []) 0x3C 0x3E (0x3E ∷ []) (drop m t) k g in
+        let u : drop 1 (drop m t) ≡ drop (m + 1) t = drop-drop 1 m t in
+        let b = starts-byte 0x3E (drop (m + 1) t) k (omega (arith, i, length-drop m t, length-drop (m + 1) t)) (ap (λ (x : List ℕ). starts_with (0x3E ∷ []) (drop k x)) (sym u) ∙ d.ends) in
+        h (m + 1 + k) (omega (arith, i, length-drop m t)) (sym (get_or-drop (m + 1) t k 0) ∙ b)
+
+    opened : (m : ℕ) → escaped_of 0x3C 0x3C t ≡ Some m → (x : Option ℕ) → delimited_of (0x3C ∷ []) 0x3C 0x3E (0x3E ∷ []) (drop m t) ≡ x → inside_of label t ≡ None
+    opened m g (Some k) i = inside-more label t m _ g refl k i (not-all m k i)
+    opened m g None i = inside-open label t m _ g refl i
+
+    text : (x : Option ℕ) → escaped_of 0x3C 0x3C t ≡ x → inside_of label t ≡ None
+    text None g = inside-refused label t g
+    text (Some m) g = opened m g _ refl
+
+-- So there is no form where the part between the backticks does not end in >.
+pub text2target-unangled :
+    (anonym label : Bool) (s : List ℕ) (n : ℕ) → taking 0x60 0x60 false 0 s ≡ Some n → ((k : ℕ) → k + 1 ≡ n → get_or s k 0 ≡ 0x3E → ⊥)
+    → text2target_of anonym label (0x60 ∷ s) ≡ None
+text2target-unangled anonym label s n e h = form-empty anonym label (0x60 ∷ s) inside
+  where
+    size : length (take n s) ≡ n
+    size = length-take-le n s (taking-le 0x60 0x60 s n e)
+
+    inside : (m : ℕ) → backticked_of anonym (0x60 ∷ s) ≡ Some m → inside_of label (take m s) ≡ None
+    inside m g =
+        let z : m ≡ n = taken_is _ _ (sym (behind-tick anonym s m g) ∙ e) in
+        ap (λ (j : ℕ). inside_of label (take j s)) z
+        ∙ inside-unangled label (take n s) (λ k i f. h k (omega (arith, i, size)) (sym (get_or-take n s k 0 (omega (arith, i, size))) ∙ f))
+
 -- Two < stand in a text t: at place m, and j bytes behind it.
 module _
     (label : Bool) (t : List ℕ) (m j : ℕ) (e : taking 0x60 0x3C false 0 (take m t) ≡ Some m) (h : m < length t) (f : get_or t m 0 ≡ 0x3C)

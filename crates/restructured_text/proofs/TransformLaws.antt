@@ -6,22 +6,22 @@
 use Rattle.std.proofs.lemmas.List.{take_more_set}
 use Rattle.std.proofs.lemmas.Option.{none-some, same_Some}
 use Rattle.std.proofs.Common.{Option, Some, None}
-use Prim.Native.Nat.{ℕ, zero, suc, ◌+◌, ◌-◌, ◌<◌, ◌≤◌}
+use Prim.Native.Nat.{ℕ, suc, ◌+◌, ◌-◌, ◌<◌, ◌≤◌}
 use mathlib.Core.Path.{◌≡◌, refl, sym, ap, subst⁻¹, ◌∙◌}
 use mathlib.Core.List.{List, [], ◌∷◌, ◌++◌, append_assoc, append-nil}
-use mathlib.Core.Bool.{Bool, true, false, ◌||◌, not, false≢true}
+use mathlib.Core.Bool.{Bool, true, false, ◌||◌, ◌&&◌, not, false≢true}
 use native.Mathlib.Omega.{arith}
 use lib.Dec.{eqb}
 use lib.ListN.{length, take, drop, set, get_or, take-append-drop, length-set, length-append}
 use lib.Seq.{drop-set-lt, drop-drop, length-take-le, take-append_seam, drop-append_seam, drop-append-le}
 use borrow.Author.Tests.{eq-eqb, ne_eqb}
-use Rattle.rst_bytes.specs.Appending.{free}
+use Rattle.rst_bytes.specs.Free.{is_other, free_front_of}
 use Rattle.rst_bytes.specs.Escaped.{is_escapable, is_stop, taking}
 use Rattle.rst_bytes.specs.Line.{is_multispace, bytes_from}
 use Rattle.rst_bytes.proofs.Lists.{part-from, drop-next, drop-two, drop-last, drop-end}
 use Rattle.rst_bytes.proofs.TestLaws.{picks_first, picks_second, by-test}
-use Rattle.rst_bytes.proofs.EscapedLaws.{refused-taken, taken_is, free-next, no_slash}
-use Rattle.rst_bytes.proofs.LineLaws.{bytes-within, bytes_count}
+use Rattle.rst_bytes.proofs.EscapedLaws.{refused-taken, taken_is}
+use Rattle.rst_bytes.proofs.LineLaws.{bytes-within, bytes_count, bytes-both}
 use Rattle.restructured_text.specs.Inner.{is_bare, is_refused}
 use Rattle.restructured_text.specs.Transform.{Given, whole, refused, onto, reading, gives, itself, only, unescaped_of, is_destination_escapable, unblank, kept_of, text_of, destination_of, transform_of, answer_of, bytes_of, over, Leaves}
 
@@ -152,27 +152,27 @@ pub record At (F : List ℕ → Given) (d₀ d : List ℕ) (i n : ℕ) : Type 0 
   pub rest : drop n d ≡ drop n d₀
   pub said : F d₀ ≡ onto (take n d) (F (drop i d₀))
 
--- The bytes at the front that stand for themselves stay where they are.
-module _ (F : List ℕ → Given) (one : (b : ℕ) (l : List ℕ) → is_bare b ≡ true → F (b ∷ l) ≡ onto (b ∷ []) (F l)) where
-  bare-said : (s : List ℕ) → F s ≡ onto (take (bytes_from is_bare 0 s) s) (F (drop (bytes_from is_bare 0 s) s))
+-- The bytes at the front that stand for themselves, since they pass a test, stay where they are.
+module _ (F : List ℕ → Given) (f : ℕ → Bool) (one : (b : ℕ) (l : List ℕ) → f b ≡ true → F (b ∷ l) ≡ onto (b ∷ []) (F l)) where
+  front-said : (s : List ℕ) → F s ≡ onto (take (bytes_from f 0 s) s) (F (drop (bytes_from f 0 s) s))
   unfolding bytes_from
-  bare-said [] = sym (onto-none _)
-  bare-said (b ∷ s) = by-test (λ n. F (b ∷ s) ≡ onto (take n (b ∷ s)) (F (drop n (b ∷ s)))) (is_bare b) _ _ (more (bare-said s)) (λ e. sym (onto-none _))
+  front-said [] = sym (onto-none _)
+  front-said (b ∷ s) = by-test (λ n. F (b ∷ s) ≡ onto (take n (b ∷ s)) (F (drop n (b ∷ s)))) (f b) _ _ (more (front-said s)) (λ e. sym (onto-none _))
     where
-      more : F s ≡ onto (take (bytes_from is_bare 0 s) s) (F (drop (bytes_from is_bare 0 s) s)) → is_bare b ≡ true → F (b ∷ s) ≡ onto (take (bytes_from is_bare 1 s) (b ∷ s)) (F (drop (bytes_from is_bare 1 s) (b ∷ s)))
+      more : F s ≡ onto (take (bytes_from f 0 s) s) (F (drop (bytes_from f 0 s) s)) → f b ≡ true → F (b ∷ s) ≡ onto (take (bytes_from f 1 s) (b ∷ s)) (F (drop (bytes_from f 1 s) (b ∷ s)))
       more ih e =
-          let f : bytes_from is_bare 1 s ≡ suc (bytes_from is_bare 0 s) = omega (arith, bytes_count is_bare s 1) in
-          subst⁻¹ (λ (n : ℕ). F (b ∷ s) ≡ onto (take n (b ∷ s)) (F (drop n (b ∷ s)))) f
-          (one b s e ∙ ap (onto (b ∷ [])) ih ∙ onto-onto (b ∷ []) (take (bytes_from is_bare 0 s) s) (F (drop (bytes_from is_bare 0 s) s)))
+          let g : bytes_from f 1 s ≡ suc (bytes_from f 0 s) = omega (arith, bytes_count f s 1) in
+          subst⁻¹ (λ (n : ℕ). F (b ∷ s) ≡ onto (take n (b ∷ s)) (F (drop n (b ∷ s)))) g
+          (one b s e ∙ ap (onto (b ∷ [])) ih ∙ onto-onto (b ∷ []) (take (bytes_from f 0 s) s) (F (drop (bytes_from f 0 s) s)))
 
-  start : (d₀ : List ℕ) (n : ℕ) → n ≡ bytes_from is_bare 0 d₀ → At F d₀ d₀ n n
+  start : (d₀ : List ℕ) (n : ℕ) → n ≡ bytes_from f 0 d₀ → At F d₀ d₀ n n
   start d₀ n e =
       record {
-        read = omega (arith, e, bytes-within is_bare d₀);
+        read = omega (arith, e, bytes-within f d₀);
         room = omega arith;
         len = refl;
         rest = refl;
-        said = subst⁻¹ (λ (k : ℕ). F d₀ ≡ onto (take k d₀) (F (drop k d₀))) e (bare-said d₀);
+        said = subst⁻¹ (λ (k : ℕ). F d₀ ≡ onto (take k d₀) (F (drop k d₀))) e (front-said d₀);
       }
 
 module _ {F : List ℕ → Given} {d₀ d : List ℕ} {i n : ℕ} (st : At F d₀ d i n) where
@@ -369,17 +369,44 @@ bare_apart b e = go (eqb b 0x5C) (is_multispace b) refl refl e
     go false true f g h = absurd (false≢true h)
     go false false f g h = (f, g)
 
-pub unescaped-start : (keep : Bool) (d₀ : List ℕ) (n : ℕ) → n ≡ bytes_from is_bare 0 d₀ → At (unescaped_of keep) d₀ d₀ n n
-unescaped-start keep = start (unescaped_of keep) (λ b l e. other is_escapable (λ c. only (gives keep c) c) itself b l (bare_apart b e).0)
+-- no byte that is no backslash
+pub other-slash : (b : ℕ) → is_other 0x5C 0x5C 0x5C b ≡ true → eqb b 0x5C ≡ false
+unfolding is_other is_stop
+other-slash b e = go (eqb b 0x5C) e
+  where
+    go : (t : Bool) → not ((t || t) || t) ≡ true → t ≡ false
+    go true h = absurd (false≢true h)
+    go false h = refl
+
+pub unescaped-start : (keep : Bool) (d₀ : List ℕ) (n : ℕ) → n ≡ free_front_of 0x5C 0x5C 0x5C d₀ → At (unescaped_of keep) d₀ d₀ n n
+unescaped-start keep =
+    start (unescaped_of keep) (is_other 0x5C 0x5C 0x5C) (λ b l e. other is_escapable (λ c. only (gives keep c) c) itself b l (other-slash b e))
 
 pub kept-start : (d₀ : List ℕ) (n : ℕ) → n ≡ bytes_from is_bare 0 d₀ → At kept_of d₀ d₀ n n
 unfolding unblank
-kept-start = start kept_of one
+kept-start = start kept_of is_bare one
   where
     one : (b : ℕ) (l : List ℕ) → is_bare b ≡ true → kept_of (b ∷ l) ≡ onto (b ∷ []) (kept_of l)
     one b l e =
         other is_destination_escapable (λ c. 0x5C ∷ c ∷ []) unblank b l (bare_apart b e).0
         ∙ ap (λ (x : List ℕ). onto x (kept_of l)) (picks_second _ _ _ (bare_apart b e).1)
+
+-- bare bytes by two searches
+bare-apart : (b : ℕ) → is_bare b ≡ (is_other 0x5C 0x20 9 b && is_other 13 10 10 b)
+unfolding is_bare is_multispace is_other is_stop
+bare-apart b = go (eqb b 0x5C) (eqb b 0x20) (eqb b 9) (eqb b 13) (eqb b 10)
+  where
+    go : (p s t r n : Bool) → not (p || (s || (t || (r || (n || false))))) ≡ (not ((p || s) || t) && not ((r || n) || n))
+    go true s t r n = refl
+    go false true t r n = refl
+    go false false true r n = refl
+    go false false false true n = refl
+    go false false false false true = refl
+    go false false false false false = refl
+
+pub bare-by : (s : List ℕ) (m n : ℕ) → m ≡ free_front_of 0x5C 0x20 9 s → n ≡ free_front_of 13 10 10 (take m s) → n ≡ bytes_from is_bare 0 s
+bare-by s m n e f =
+    f ∙ ap (λ (k : ℕ). free_front_of 13 10 10 (take k s)) e ∙ bytes-both (is_other 0x5C 0x20 9) (is_other 13 10 10) is_bare bare-apart s
 
 -- Whether a transform refuses: what is put in front changes nothing of it.
 pub onto-refused : (l : List ℕ) (g : Given) → is_refused (onto l g) ≡ is_refused g
@@ -412,13 +439,16 @@ module _ (b c : ℕ) (l : List ℕ) (e : eqb b 0x5C ≡ true) where
   unfolding is_refused
   kept-wrong f = ap is_refused (wrong is_destination_escapable (λ d. 0x5C ∷ d ∷ []) unblank b c l e f)
 
--- bytes at the front that are no backslash, i of them
-kept-front : (i : ℕ) (s : List ℕ) → free 0x5C 0x5C (take i s) ≡ true → is_refused (kept_of s) ≡ is_refused (kept_of (drop i s))
-kept-front zero s f = refl
-kept-front (suc i) [] f = refl
-kept-front (suc i) (b ∷ l) f =
-    let w = free-next 0x5C 0x5C b (take i l) f in
-    kept_byte b l (no_slash b w.0) ∙ kept-front i l w.1
+-- bytes at the front that are no backslash
+kept-front : (s : List ℕ) → is_refused (kept_of s) ≡ is_refused (kept_of (drop (free_front_of 0x5C 0x5C 0x5C s) s))
+unfolding bytes_from
+kept-front [] = refl
+kept-front (b ∷ l) =
+    by-test (λ n. is_refused (kept_of (b ∷ l)) ≡ is_refused (kept_of (drop n (b ∷ l)))) (is_other 0x5C 0x5C 0x5C b) _ _
+    (λ e.
+    let n : bytes_from (is_other 0x5C 0x5C 0x5C) (0 + 1) l ≡ suc (free_front_of 0x5C 0x5C 0x5C l) = omega (arith, bytes_count (is_other 0x5C 0x5C 0x5C) l (0 + 1)) in
+    kept_byte b l (other-slash b e) ∙ kept-front l ∙ ap (λ (k : ℕ). is_refused (kept_of (drop k (b ∷ l)))) (sym n))
+    (λ e. refl)
 
 -- The same by the code's tests: nothing is left;
 pub front-none : (s : List ℕ) → length s < 1 → is_refused (kept_of s) ≡ false
@@ -452,11 +482,11 @@ pub front-other :
 front-other [] h e = absurd (omega arith)
 front-other (b ∷ s) h e = rw (part-from (b ∷ s) 1) (kept_byte b s (ne_eqb _ _ e))
 
--- and bytes that are no backslash, r of them
-pub front-free : (s : List ℕ) (r : ℕ) → free 0x5C 0x5C (take r s) ≡ true → is_refused (kept_of s) ≡ is_refused (kept_of (take (length s - r) (drop r s)))
-front-free s r f = kept-front r s f ∙ ap (λ (v : List ℕ). is_refused (kept_of v)) (sym (part-from s r))
+-- and bytes that are no backslash, r of them, by the code
+pub front_free : (s : List ℕ) (r : ℕ) → r ≡ free_front_of 0x5C 0x5C 0x5C s → is_refused (kept_of s) ≡ is_refused (kept_of (take (length s - r) (drop r s)))
+front_free s r e = kept-front s ∙ ap (λ (k : ℕ). is_refused (kept_of (drop k s))) (sym e) ∙ ap (λ (v : List ℕ). is_refused (kept_of v)) (sym (part-from s r))
 
-pub ruleset fronts = (front-none, front-last, front-wrong, front-two, front-other, front-free)
+pub ruleset fronts = (front-none, front-last, front-wrong, front-two, front-other)
 
 -- behind a text that `escaped` takes as a whole, unescaping refuses if it does so there
 unescaped-over : (p q : ℕ) (keep : Bool) (l s : List ℕ) (n k : ℕ) → n + length l ≡ k → taking p q false n l ≡ Some k → is_refused (unescaped_of keep (l ++ s)) ≡ is_refused (unescaped_of keep s)

@@ -36,7 +36,8 @@
 --   one of two   a block is no alias and destination at once: TargetLaws alias-or-destination, destination-or-alias
 --   none         where no backticked run begins there is no inline form: InlineLaws text2dest-refused, text-label2dest-refused,
 --                text2label-refused; DelimitedLaws backticked-other: another byte than a backtick begins no run; where the run that
---                begins has no <, or two, there is no embedded link: InlineLaws embedded-unbracketed, embedded-opened; and where
+--                begins has no <, or two, or no > at its end, there is no embedded link: InlineLaws embedded-unbracketed,
+--                embedded-opened, embedded-unangled; and where
 --                there is none with more text before it, there is none: embedded-longer; TargetLaws no_target, no-label,
 --                no-destination: where neither `.. _` nor `__ ` starts there is no target
 --   step by step what a definition says by the tests it makes, for places without targets: BlockLaws start-taken, start-refused, start_is,
@@ -48,7 +49,8 @@
 --                kept-wrong: whether a destination is refused (is_refused of Inner), by its first bytes; destination-dead: then the transform refuses it
 --   calm         where no _ and no backtick stands before white space or the end (Calm) no inline form is found: CalmLaws calm-text2dest,
 --                calm-text-label2dest, calm-text2label; before LF or the end no target either: calm-label2dest, calm-label2label;
---                calm-drop: what is behind in it is calm too
+--                calm-drop: what is behind in it is calm too; void-text2label: no reference begins at a byte that is no backtick and begins no
+--                word
 --   appending    on s ++ 10 ∷ t, for `Tail t`: Text2targetLaws text2target-lf; LabelLaws simple-lf, reference-lf; InlineLaws
 --                text2dest-lf, text-label2dest-lf, text2label-lf; for `Tail t` and `Body s`: BlockLaws block-lf; TargetLaws
 --                label2target-lf, label2dest-lf, label2label-lf

@@ -129,22 +129,28 @@ pub fn rst_parse_label2target(s: &[u8], label: bool) -> Option<Spans>
     Some((name, target, s.len()))
 }
 
-// Whether a destination is refused: a wrong escape stands in it. Each 16 steps bytes that are no backslash are passed many at once.
+// The text from its first backslash on.
+#[tactic(auto, using(crate::proofs::TransformLaws::front_free))]
+fn from_slash(d: &[u8]) -> &[u8]
+    ensures len { length result.now ≤ length d.now }
+    ensures same { is_refused (kept_of d.now) ≡ is_refused (kept_of result.now) }
+{
+    &d[free_front(d, b'\\', b'\\', b'\\')..]
+}
+
+// Whether a destination is refused: a wrong escape stands in it.
 #[tactic(auto, using(crate::proofs::TransformLaws::fronts))]
 fn is_wrong(d: &[u8]) -> bool
     ensures { result ≡ is_refused (kept_of d.now) }
 {
-    let mut rest = d;
+    let mut rest = from_slash(d);
     // No `for`: an escape takes two bytes.
     loop {
-        rest = &rest[free_front(rest, b'\\', b'\\', b'\\')..];
-        for _ in 0..16usize {
-            match rest {
-                [] => return false,
-                [b'\\', e, tail @ ..] if is_destination_escapable(*e) => rest = tail,
-                [b'\\', ..] => return true,
-                [_, tail @ ..] => rest = tail,
-            }
+        match rest {
+            [] => return false,
+            [b'\\', e, tail @ ..] if is_destination_escapable(*e) => rest = from_slash(tail),
+            [b'\\', ..] => return true,
+            [_, tail @ ..] => rest = tail,
         }
     }
 }

@@ -15,6 +15,7 @@ ghost use Rattle.restructured_text.specs.Transform.{
 };
 
 use rst_bytes::escaped::is_escapable;
+use rst_bytes::free::free_front;
 use rst_bytes::line::is_multispace;
 
 // What a backslash may stand before in a destination: space, ':', backtick, '<', '>', backslash.
@@ -33,26 +34,19 @@ fn gives_itself(keep: bool, b: u8) -> bool
     b != b' ' || keep
 }
 
-// Neither a backslash nor whitespace: what no transform changes.
-#[tactic(auto, unfolding(crate::specs::Inner::is_bare, rst_bytes::specs::Line::is_multispace))]
-fn is_bare(b: u8) -> bool
-    ensures { result ≡ is_bare b }
-{
-    b != b'\\' && !is_multispace(b)
-}
-
-// How many such bytes stand at the front.
+// How many bytes at the front are neither a backslash nor whitespace: what no transform changes.
 fn bare(d: &[u8]) -> usize
     ensures { result ≡ bytes_from is_bare 0 d.now }
 {
-    d.iter().take_while(|&&b| is_bare(b)).count()
+    let n = free_front(d, b'\\', b' ', b'\t');
+    free_front(&d[..n], b'\r', b'\n', b'\n')
 }
 
 // An escaped character stands for itself; an escaped space for a space if `keep`, else for nothing.
 fn unescape(d: &mut [u8], keep: bool) -> Option<usize>
     ensures { Leaves (unescaped_of keep d.old) d.old d.new result }
 {
-    let front = bare(d);
+    let front = free_front(d, b'\\', b'\\', b'\\');
     let mut i = front;
     let mut n = front;
     // No `for`: an escape takes two bytes, and what is read is written over.

@@ -11,9 +11,11 @@ use native.Mathlib.Nat.{not-suc-le-zero, sub_self}
 use native.Mathlib.Omega.{arith}
 use lib.Dec.{eqb}
 use lib.ListN.{length, get_or, drop, take, length-append, length-drop, take-append-drop}
-use lib.Seq.{take-nil, length-take-le, drop-drop}
+use lib.Seq.{take-nil, take-add, take-take, length-take-le, drop-drop}
 use borrow.Author.Tests.{eq-eqb, ne_eqb, eqb-true}
 use Rattle.rst_bytes.specs.Escaped.{is_escapable, is_stop, taking, escaped_of}
+use Rattle.std.specs.Array.{IsFirstChunk}
+use Rattle.rst_bytes.specs.Inner.{taken_on}
 use Rattle.rst_bytes.specs.Appending.{free}
 use Rattle.rst_bytes.proofs.Lists.{drop-next, drop-two, drop-last, drop-end, part-from}
 use Rattle.rst_bytes.proofs.TestLaws.{by-test, by-test₂, or_cases, neither}
@@ -25,7 +27,7 @@ alone p q n b e = simp (e, taking)
 
 module _ (p q n b : ℕ) (rest : List ℕ) where
   -- a byte that is no backslash and no stop byte is taken
-  plain : eqb b 0x5C ≡ false → is_stop p q b ≡ false → taking p q false n (b ∷ rest) ≡ taking p q false (n + 1) rest
+  pub plain : eqb b 0x5C ≡ false → is_stop p q b ≡ false → taking p q false n (b ∷ rest) ≡ taking p q false (n + 1) rest
   unfolding taking
   plain e f = simp (e, f, taking)
 
@@ -35,12 +37,12 @@ module _ (p q n b : ℕ) (rest : List ℕ) where
   stop e f = simp (e, f, taking)
 
   -- a backslash waits for the next byte
-  slash : eqb b 0x5C ≡ true → taking p q false n (b ∷ rest) ≡ taking p q true (n + 1) rest
+  pub slash : eqb b 0x5C ≡ true → taking p q false n (b ∷ rest) ≡ taking p q true (n + 1) rest
   unfolding taking
   slash e = simp (e, taking)
 
   -- the byte after it is taken along
-  pair : is_escapable b ≡ true → taking p q true n (b ∷ rest) ≡ taking p q false (n + 1) rest
+  pub pair : is_escapable b ≡ true → taking p q true n (b ∷ rest) ≡ taking p q false (n + 1) rest
   unfolding taking
   pair e = simp (e, taking)
 
@@ -375,29 +377,48 @@ pub no_slash : (b : ℕ) → is_stop 0x5C 0x5C b ≡ false → eqb b 0x5C ≡ fa
 unfolding is_stop
 no_slash b e = (neither (eqb b 0x5C) (eqb b 0x5C) e).0
 
--- bytes at the front that are no backslash, p or q are taken, i of them after n
-passed : (p q i : ℕ) (s : List ℕ) (n m : ℕ) → i ≤ length s → n + i ≡ m → free p q (take i s) ≡ true → free 0x5C 0x5C (take i s) ≡ true → taking p q false n s ≡ taking p q false m (drop i s)
-passed p q zero s n m h e f g =
-    let z : n ≡ m = omega arith in
-    ap (λ (k : ℕ). taking p q false k s) z
-passed p q (suc i) [] n m h e f g = absurd (not-suc-le-zero h)
-passed p q (suc i) (b ∷ rest) n m h e f g =
-    let w = free-next p q b (take i rest) f in
-    let v = free-next 0x5C 0x5C b (take i rest) g in
-    plain p q n b rest (no_slash b v.0) w.0 ∙ passed p q i rest (n + 1) m (omega arith) (omega arith) w.1 v.1
+-- n bytes behind i that are taken, by what the code has
+pub one-over :
+    (p q : ℕ) (s : List ℕ) (i n : ℕ) → 0 < n → taking p q false i (take (length s - i) (drop i s)) ≡ taken_on p q i (take (length s - i) (drop i s)) (Some n)
+    → taking p q false i (drop i s) ≡ taking p q false (i + n) (drop (i + n) s)
+one-over p q s i zero h e = absurd (omega arith)
+one-over p q s i (suc k) h e =
+    subst (λ (l : List ℕ). taking p q false i l ≡ taking p q false (i + suc k) (drop (suc k) l)) (part-from s i) e ∙ ap (taking p q false (i + suc k)) (drop-drop (suc k) i s)
 
--- the same behind k bytes, r of them, by what the code has
-pub taking-passed :
-    (p q : ℕ) (s : List ℕ) (k r : ℕ) → k ≤ length s → r ≤ length (take (length s - k) (drop k s))
-    → (free p q (take r (take (length s - k) (drop k s))) ≡ true) × (free 0x5C 0x5C (take r (take (length s - k) (drop k s))) ≡ true)
-    → (k + r ≤ length s) × (taking p q false k (drop k s) ≡ taking p q false (k + r) (drop (k + r) s))
-taking-passed p q s k r g h f =
-    let i : take (length s - k) (drop k s) ≡ drop k s = part-from s k in
-    let l : r ≤ length (drop k s) = omega (arith, h, ap length i) in (
-      omega (arith, l, length-drop k s),
-      passed p q r (drop k s) k (k + r) l refl (subst (λ (v : List ℕ). free p q (take r v) ≡ true) i f.0) (subst (λ (v : List ℕ). free 0x5C 0x5C (take r v) ≡ true) i f.1)
-          ∙ ap (taking p q false (k + r)) (drop-drop r k s),
-    )
+-- r bytes of the first 16, taken as a whole
+pub chunk-taken : (p q : ℕ) (s chunk : List ℕ) (r : ℕ) → IsFirstChunk s chunk 16 → r ≤ 16 → taking p q false 0 (take r chunk) ≡ Some r → (r ≤ length s) × (taking p q false 0 (take r s) ≡ Some r)
+chunk-taken p q s chunk r first h e =
+    let z : take r chunk ≡ take r s = ap (take r) first.same ∙ take-take r 16 s h in
+    (omega (arith, h, first.enough), ap (taking p q false 0) (sym z) ∙ e)
+
+-- r bytes behind k that are taken as a whole: counted from k, what stands behind them is read as if it stood alone
+module _ (p q : ℕ) (s : List ℕ) (k r : ℕ) (h : k + r ≤ length s) (e : taking p q false 0 (take r (drop k s)) ≡ Some r) where
+  whole-taken : taking p q false k (take r (drop k s)) ≡ Some (k + r)
+  whole-taken = taken-later p q k (take r (drop k s)) r e
+
+  pub whole-over : taking p q false k (drop k s) ≡ taking p q false (k + r) (drop (k + r) s)
+  whole-over =
+      let n : k + length (take r (drop k s)) ≡ k + r = omega (arith, length-take-le r (drop k s) (omega (arith, length-drop k s))) in
+      ap (taking p q false k) (sym (take-append-drop r (drop k s)))
+      ∙ taking-over p q (take r (drop k s)) (drop r (drop k s)) false k (k + r) n whole-taken
+      ∙ ap (taking p q false (k + r)) (drop-drop r k s)
+
+-- the same by what the code has; and with the k bytes they are taken as a whole, if these are
+module _ (p q : ℕ) (s : List ℕ) (k r : ℕ) (h : k ≤ length s) (g : r ≤ length (take (length s - k) (drop k s))) (e : taking p q false 0 (take r (take (length s - k) (drop k s))) ≡ Some r) where
+  pub front-within : k + r ≤ length s
+  front-within = omega (arith, g, ap length (part-from s k), length-drop k s)
+
+  pub front-taken : taking p q false 0 (take r (drop k s)) ≡ Some r
+  front-taken = subst (λ (l : List ℕ). taking p q false 0 (take r l) ≡ Some r) (part-from s k) e
+
+  pub front-over : taking p q false k (drop k s) ≡ taking p q false (k + r) (drop (k + r) s)
+  front-over = whole-over p q s k r front-within front-taken
+
+  pub front-whole : taking p q false 0 (take k s) ≡ Some k → taking p q false 0 (take (k + r) s) ≡ Some (k + r)
+  front-whole f =
+      ap (taking p q false 0) (take-add k r s)
+      ∙ taking-over p q (take k s) (take r (drop k s)) false 0 k (omega (arith, length-take-le k s h)) f
+      ∙ whole-taken p q s k r front-within front-taken
 
 -- one byte more in front of it
 pub free_more : (p q b : ℕ) (l : List ℕ) → is_stop p q b ≡ false → free p q l ≡ true → free p q (b ∷ l) ≡ true

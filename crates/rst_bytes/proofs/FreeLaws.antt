@@ -1,63 +1,43 @@
--- The laws of `free` for the code that passes many bytes at once: what a `fold` answers that looks at all of them, and how long a text is
--- free by chunks of 16.
+-- The laws of `specs/Free.antt` for the code that passes 16 bytes at a time: i bytes of s were passed, and of the 16 behind them n pass.
 -- Assumes nothing.
-use Prim.Native.Nat.{ℕ, zero, suc, ◌+◌, ◌*◌}
-use mathlib.Core.Path.{◌≡◌, refl, sym, ◌∙◌, subst}
-use mathlib.Core.List.{List, [], ◌∷◌}
-use mathlib.Core.Bool.{Bool, true, false, not, ◌&&◌, and-true, and-false, and-eq-true_iff}
+use Prim.Native.Nat.{ℕ, ◌+◌, ◌-◌, ◌<◌, ◌≤◌}
+use mathlib.Core.Path.{◌≡◌, sym, ap, ◌∙◌, subst}
+use mathlib.Core.List.{List}
+use mathlib.Core.Bool.{Bool}
 use native.Mathlib.Omega.{arith}
-use lib.ListN.{drop, take}
-use Rattle.std.specs.List.{fold, prefix_len}
-use Rattle.std.specs.Simd.{first_chunks}
-use Rattle.rst_bytes.specs.Escaped.{is_stop}
-use Rattle.rst_bytes.specs.Appending.{free}
-use Rattle.rst_bytes.proofs.EscapedLaws.{free-next}
+use lib.ListN.{length, drop, take, length-drop}
+use lib.Seq.{drop-drop, length-take-le}
+use Rattle.std.specs.Array.{IsFirstChunk}
+use Rattle.rst_bytes.specs.Line.{bytes_from}
+use Rattle.rst_bytes.proofs.Lists.{part-from}
+use Rattle.rst_bytes.proofs.LineLaws.{bytes-within, bytes-all, bytes-part}
 
-module _ (p q : ℕ) where
-  free-cons : (b : ℕ) (l : List ℕ) → is_stop p q b ≡ false → free p q (b ∷ l) ≡ free p q l
-  unfolding free
-  free-cons b l e = simp (e, free)
+module _ (f : ℕ → Bool) (s chunk : List ℕ) (i n : ℕ) (le : i ≤ length s) (passed : bytes_from f 0 s ≡ i + bytes_from f 0 (drop i s)) where
+  module _ (first : IsFirstChunk (take (length s - i) (drop i s)) chunk 16) (told : n ≡ bytes_from f 0 chunk) where
+    front : chunk ≡ take 16 (drop i s)
+    front = first.same ∙ ap (take 16) (part-from s i)
 
-  -- what a `fold` over the bytes answers that looks at all of them
-  pub free-fold : (s : List ℕ) (is : Bool) → fold (λ x b. x && not (is_stop p q b)) is s ≡ (is && free p q s)
-  unfolding free
-  free-fold [] is = sym (and-true is)
-  free-fold (b ∷ s) is = go (is_stop p q b) refl (free-fold s (is && not (is_stop p q b)))
-    where
-      go : (x : Bool) → is_stop p q b ≡ x → fold (λ x b. x && not (is_stop p q b)) (is && not (is_stop p q b)) s ≡ (is && not (is_stop p q b) && free p q s) → fold (λ x b. x && not (is_stop p q b)) is (b ∷ s) ≡ (is && free p q (b ∷ s))
-      go true e h = h ∙ simp (e, free, and-false)
-      go false e h = h ∙ simp (e, free, and-true)
+    enough : 16 ≤ length (drop i s)
+    enough = subst (λ l. 16 ≤ length l) (part-from s i) first.enough
 
-  -- up to i and then for k bytes, to m
-  free-add : (i k m : ℕ) (s : List ℕ) → i + k ≡ m → free p q (take i s) ≡ true → free p q (take k (drop i s)) ≡ true → free p q (take m s) ≡ true
-  unfolding free
-  free-add zero k m s e f g =
-      let z : k ≡ m = omega arith in
-      subst (λ (n : ℕ). free p q (take n s) ≡ true) z g
-  free-add (suc i) k zero s e f g = absurd (omega arith)
-  free-add (suc i) k (suc m) [] e f g = refl
-  free-add (suc i) k (suc m) (b ∷ rest) e f g =
-      let w = free-next p q b (take i rest) f in
-      rw (free-cons b (take m rest) w.0) (free-add i k m rest (omega arith) w.1 g)
+    -- the sum is a place of s
+    pub chunk-within : i + n ≤ length s
+    chunk-within =
+        let z : n ≡ bytes_from f 0 (take 16 (drop i s)) = told ∙ ap (bytes_from f 0) front in
+        omega (arith, z, length-drop i s, enough, bytes-within f (take 16 (drop i s)), length-take-le 16 (drop i s) enough)
 
-  -- and so for chunks of 16 that pass a test, if it tells that there is neither p nor q
-  free-chunks : (test : List ℕ → Bool) → ((c : List ℕ) → test c ≡ true → free p q c ≡ true) → (n : ℕ) (s : List ℕ) → free p q (take (16 * prefix_len test (first_chunks 16 n s)) s) ≡ true
-  unfolding free
-  free-chunks test f zero s = refl
-  free-chunks test f (suc n) s = go (test (take 16 s)) refl (free-chunks test f n (drop 16 s))
-    where
-      k : ℕ
-      k = prefix_len test (first_chunks 16 n (drop 16 s))
+    -- not all of them
+    pub chunk-stops : n < 16 → i + n ≡ bytes_from f 0 s
+    chunk-stops h =
+        let z : n ≡ bytes_from f 0 (take 16 (drop i s)) = told ∙ ap (bytes_from f 0) front in
+        omega (arith, passed, bytes-part f (drop i s) 16 enough (omega (arith, z)), z)
 
-      go : (x : Bool) → test (take 16 s) ≡ x → free p q (take (16 * k) (drop 16 s)) ≡ true → free p q (take (16 * prefix_len test (first_chunks 16 (suc n) s)) s) ≡ true
-      go true e h = rw e (free-add 16 (16 * k) (16 * (1 + k)) s (omega arith) (f (take 16 s) e) h)
-      go false e h = rw e refl
-
--- what is free in chunks of 16, each of them of p, q and x
-abbrev pub frees : ℕ → ℕ → ℕ → List ℕ → Bool
-frees p q x l = free p q l && free x x l
-
-pub free-front : (p q x n : ℕ) (s : List ℕ) (k : ℕ) → k ≡ prefix_len (frees p q x) (first_chunks 16 n s) → (free p q (take (16 * k) s) ≡ true) × (free x x (take (16 * k) s) ≡ true)
-free-front p q x n s k e =
-    let both = λ (l : List ℕ) (t : frees p q x l ≡ true). (and-eq-true_iff (free p q l) (free x x l)).0 t in
-    rw e (free-chunks p q (frees p q x) (λ l t. (both l t).0) n s, free-chunks x x (frees p q x) (λ l t. (both l t).1) n s)
+    -- all
+    pub chunk-passes : 16 ≤ n → (i + n ≤ length s) × (bytes_from f 0 s ≡ i + n + bytes_from f 0 (drop (i + n) s))
+    chunk-passes h =
+        let z : n ≡ bytes_from f 0 (take 16 (drop i s)) = told ∙ ap (bytes_from f 0) front in
+        let most : n ≤ 16 = omega (arith, z, bytes-within f (take 16 (drop i s)), length-take-le 16 (drop i s) enough) in
+        let full : 16 ≡ n = omega (arith, h, most) in
+        let all : bytes_from f 0 (drop i s) ≡ n + bytes_from f 0 (drop n (drop i s)) = bytes-all f (drop i s) n (sym (z ∙ ap (λ (m : ℕ). bytes_from f 0 (take m (drop i s))) full)) in
+        let rest : bytes_from f 0 (drop n (drop i s)) ≡ bytes_from f 0 (drop (i + n) s) = ap (bytes_from f 0) (drop-drop n i s) in
+        (omega (arith, length-drop i s, enough, most), omega (arith, passed, all, rest))

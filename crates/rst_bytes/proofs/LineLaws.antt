@@ -3,15 +3,14 @@
 -- Assumes nothing.
 use Rattle.std.proofs.Common.{Option, Some, None}
 use Prim.Native.Nat.{ℕ, zero, suc, ◌+◌, ◌-◌, ◌<◌, ◌≤◌}
-use mathlib.Core.Path.{◌≡◌, refl, sym, ap, ◌∙◌, subst, subst⁻¹}
+use mathlib.Core.Path.{◌≡◌, refl, sym, ap, ap₂, ◌∙◌, subst, subst⁻¹}
 use mathlib.Core.List.{List, [], ◌∷◌, ◌++◌}
-use mathlib.Core.Bool.{Bool, true, false, not, true≢false, false≢true}
+use mathlib.Core.Bool.{Bool, true, false, not, ◌||◌, ◌&&◌, true≢false, false≢true}
 use mathlib.Core.Logic.{◌⊎◌, inl, inr, ⊎_elim}
 use native.Mathlib.Nat.{not-suc-le-zero, suc-ne-zero, sub_self, add-zero}
 use native.Mathlib.Omega.{arith}
 use lib.Dec.{eqb}
-use lib.ListN.{length, get_or, drop, take, length-take, length-drop}
-use lib.Seq.{drop-drop}
+use lib.ListN.{length, get_or, drop, take}
 use denote.Param.Members.{Mut}
 use denote.Ref.{Bor}
 use Rattle.std.specs.Fn.{CalledAt}
@@ -29,9 +28,9 @@ use Rattle.std.proofs.lemmas.List.Folds.{length-prefix_len}
 use borrow.Author.Tests.{eq-eqb, ne_eqb, eqb-true, eqb-false}
 use Rattle.rst_bytes.specs.Line.{starts_lf, newline_of, line_ending_of, line_from, not_line_ending_of, is_space, is_multispace, bytes_from, space0_of, space1_of, multispace0_of}
 use Rattle.rst_bytes.specs.Escaped.{is_stop}
+use Rattle.rst_bytes.specs.Free.{is_other, free_front_of}
 use Rattle.rst_bytes.specs.Appending.{free, ends_in_cr, starts_space, Body}
 use Rattle.rst_bytes.proofs.Lists.{drop-next, drop-end, part-from}
-use Rattle.rst_bytes.proofs.EscapedLaws.{free-next}
 use Rattle.rst_bytes.proofs.TestLaws.{by-test, by-test₂, or_cases, neither}
 
 -- The two line endings.
@@ -72,20 +71,6 @@ apart : (b : ℕ) → is_stop 10 13 b ≡ false → (eqb b 10 ≡ false) × (eqb
 unfolding is_stop
 apart b e = neither (eqb b 10) (eqb b 13) e
 
--- bytes at the front that are neither LF nor CR are passed, i of them after n
-passed : (i : ℕ) (s : List ℕ) (n m : ℕ) → i ≤ length s → n + i ≡ m → free 10 13 (take i s) ≡ true → line_from n s ≡ line_from m (drop i s)
-passed zero s n m h e f =
-    let z : n ≡ m = omega arith in
-    ap (λ (k : ℕ). line_from k s) z
-passed (suc i) [] n m h e f = absurd (not-suc-le-zero h)
-passed (suc i) (b ∷ rest) n m h e f =
-    let w = free-next 10 13 b (take i rest) f in
-    let v = apart b w.0 in
-    step-plain n b rest v.0 v.1 ∙ passed i rest (n + 1) m (omega arith) (omega arith) w.1
-
-line-skipped : (s : List ℕ) (i : ℕ) → i ≤ length s → free 10 13 (take i s) ≡ true → line_from 0 s ≡ line_from i (drop i s)
-line-skipped s i h f = passed i s 0 i h (omega arith) f
-
 -- bytes are counted on from n
 pub bytes_count : (f : ℕ → Bool) (s : List ℕ) (n : ℕ) → bytes_from f n s ≡ n + bytes_from f 0 s
 unfolding bytes_from
@@ -104,9 +89,94 @@ bytes_le f (b ∷ l) n k h = by-test (λ x. x ≤ k) (f b) _ _ (λ e. bytes_le f
 pub bytes-within : (f : ℕ → Bool) (s : List ℕ) → bytes_from f 0 s ≤ length s
 bytes-within f s = bytes_le f s 0 (length s) (omega arith)
 
+-- the first byte passes, or it does not
+bytes-first : (f : ℕ → Bool) (b : ℕ) (s : List ℕ) → f b ≡ true → bytes_from f 0 (b ∷ s) ≡ 1 + bytes_from f 0 s
+unfolding bytes_from
+bytes-first f b s e =
+    let one : bytes_from f 0 (b ∷ s) ≡ bytes_from f (0 + 1) s = simp (e, bytes_from) in
+    one ∙ bytes_count f s (0 + 1)
+
+bytes-none : (f : ℕ → Bool) (b : ℕ) (s : List ℕ) → f b ≡ false → bytes_from f 0 (b ∷ s) ≡ 0
+unfolding bytes_from
+bytes-none f b s e = simp (e, bytes_from)
+
+-- k bytes pass, and no more
+pub bytes_is : (f : ℕ → Bool) (s : List ℕ) (k : ℕ) → k ≤ length s → ((j : ℕ) → j < k → f (get_or s j 0) ≡ true) → (k < length s → f (get_or s k 0) ≡ false) → bytes_from f 0 s ≡ k
+unfolding bytes_from
+bytes_is f [] k h pass end = omega arith
+bytes_is f (b ∷ s) zero h pass end = bytes-none f b s (end (omega arith))
+bytes_is f (b ∷ s) (suc k) h pass end =
+    omega (arith, bytes-first f b s (pass 0 (omega arith)), bytes_is f s k (omega arith) (λ j l. pass (suc j) (omega arith)) (λ l. end (omega arith)))
+
+-- each of the bytes that are counted passes
+pub bytes_each : (f : ℕ → Bool) (s : List ℕ) (j : ℕ) → j < bytes_from f 0 s → f (get_or s j 0) ≡ true
+unfolding bytes_from
+bytes_each f [] j h = absurd (omega arith)
+bytes_each f (b ∷ s) j h = go (f b) refl j h (bytes_each f s)
+  where
+    go : (x : Bool) → f b ≡ x → (j : ℕ) → j < bytes_from f 0 (b ∷ s) → ((k : ℕ) → k < bytes_from f 0 s → f (get_or s k 0) ≡ true) → f (get_or (b ∷ s) j 0) ≡ true
+    go false e j l each = absurd (omega (arith, l, bytes-none f b s e))
+    go true e zero l each = e
+    go true e (suc j) l each = each j (omega (arith, l, bytes-first f b s e))
+
+-- of the first m bytes all pass, and then others may; or not all of them do
+pub bytes-all : (f : ℕ → Bool) (s : List ℕ) (m : ℕ) → bytes_from f 0 (take m s) ≡ m → bytes_from f 0 s ≡ m + bytes_from f 0 (drop m s)
+unfolding bytes_from
+bytes-all f s zero e = omega arith
+bytes-all f [] (suc m) e = absurd (omega (arith, e))
+bytes-all f (b ∷ s) (suc m) e = go (f b) refl (bytes-all f s m)
+  where
+    go : (x : Bool) → f b ≡ x → (bytes_from f 0 (take m s) ≡ m → bytes_from f 0 s ≡ m + bytes_from f 0 (drop m s)) → bytes_from f 0 (b ∷ s) ≡ suc m + bytes_from f 0 (drop m s)
+    go true g more = omega (arith, bytes-first f b s g, more (omega (arith, bytes-first f b (take m s) g, e)))
+    go false g more = absurd (omega (arith, bytes-none f b (take m s) g, e))
+
+pub bytes-part : (f : ℕ → Bool) (s : List ℕ) (m : ℕ) → m ≤ length s → bytes_from f 0 (take m s) < m → bytes_from f 0 s ≡ bytes_from f 0 (take m s)
+bytes-part f s zero h l = absurd (omega arith)
+bytes-part f [] (suc m) h l = absurd (omega arith)
+bytes-part f (b ∷ s) (suc m) h l = go (f b) refl (bytes-part f s m (omega arith))
+  where
+    go : (x : Bool) → f b ≡ x → (bytes_from f 0 (take m s) < m → bytes_from f 0 s ≡ bytes_from f 0 (take m s)) → bytes_from f 0 (b ∷ s) ≡ bytes_from f 0 (b ∷ take m s)
+    go true g more = omega (arith, bytes-first f b s g, bytes-first f b (take m s) g, more (omega (arith, bytes-first f b (take m s) g)))
+    go false g more = bytes-none f b s g ∙ sym (bytes-none f b (take m s) g)
+
+-- bytes that pass two tests: of those that pass the one, those that pass the other
+pub bytes-both : (f g h : ℕ → Bool) → ((b : ℕ) → h b ≡ (f b && g b)) → (s : List ℕ) → bytes_from g 0 (take (bytes_from f 0 s) s) ≡ bytes_from h 0 s
+unfolding bytes_from
+bytes-both f g h both [] = refl
+bytes-both f g h both (b ∷ s) = go (f b) refl (g b) refl (bytes-both f g h both s)
+  where
+    go : (x : Bool) → f b ≡ x → (y : Bool) → g b ≡ y → bytes_from g 0 (take (bytes_from f 0 s) s) ≡ bytes_from h 0 s → bytes_from g 0 (take (bytes_from f 0 (b ∷ s)) (b ∷ s)) ≡ bytes_from h 0 (b ∷ s)
+    go true e y i more =
+        let m : bytes_from f 0 (b ∷ s) ≡ suc (bytes_from f 0 s) = bytes-first f b s e ∙ omega arith in
+        ap (λ (k : ℕ). bytes_from g 0 (take k (b ∷ s))) m ∙ front y i more
+      where
+        front : (y : Bool) → g b ≡ y → bytes_from g 0 (take (bytes_from f 0 s) s) ≡ bytes_from h 0 s → bytes_from g 0 (b ∷ take (bytes_from f 0 s) s) ≡ bytes_from h 0 (b ∷ s)
+        front true i more = bytes-first g b (take (bytes_from f 0 s) s) i ∙ ap (λ (k : ℕ). 1 + k) more ∙ sym (bytes-first h b s (both b ∙ ap₂ ◌&&◌ e i))
+        front false i more = bytes-none g b (take (bytes_from f 0 s) s) i ∙ sym (bytes-none h b s (both b ∙ ap₂ ◌&&◌ e i))
+    go false e y i more =
+        ap (λ (k : ℕ). bytes_from g 0 (take k (b ∷ s))) (bytes-none f b s e) ∙ sym (bytes-none h b s (both b ∙ ap (λ (t : Bool). t && g b) e))
+
+-- the same bytes pass two tests that are the same
+same-from : (f g : ℕ → Bool) → ((b : ℕ) → f b ≡ g b) → (l : List ℕ) (n : ℕ) → bytes_from f n l ≡ bytes_from g n l
+unfolding bytes_from
+same-from f g h [] n = refl
+same-from f g h (b ∷ l) n = rw (h b, bytes_from) (by-test₂ (λ x y. x ≡ y) (g b) _ _ _ _ (λ e. same-from f g h l (n + 1)) (λ e. refl))
+
+pub bytes-same : (f g : ℕ → Bool) → ((b : ℕ) → f b ≡ g b) → (l : List ℕ) → bytes_from f 0 l ≡ bytes_from g 0 l
+bytes-same f g h l = same-from f g h l 0
+
 -- neither LF nor CR
-abbrev pub inner : ℕ → Bool
+abbrev inner : ℕ → Bool
 inner b = not (is_stop 10 13 b)
+
+other-inner : (b : ℕ) → is_other 10 13 13 b ≡ inner b
+unfolding is_other is_stop
+other-inner b = go (eqb b 10) (eqb b 13)
+  where
+    go : (x y : Bool) → not ((x || y) || y) ≡ not (x || y)
+    go true y = refl
+    go false true = refl
+    go false false = refl
 
 -- the rest of the line is i bytes, if r says that a line ending stands behind them
 abbrev pub line_by : ℕ → Option ℕ → Option ℕ
@@ -144,23 +214,23 @@ line-run (b ∷ l) i = go (is_stop 10 13 b) refl (line-run l (i + 1))
         let z : i + 1 + bytes_from inner 0 l ≡ i + suc (bytes_from inner 0 l) = omega arith in
         step-plain i b l v.0 v.1 ∙ ih ∙ rw (e, bytes_from, n) (ap (λ (k : ℕ). line_before k (drop (bytes_from inner 0 l) l)) z)
 
--- The rest of the line by the code: k bytes are passed, and behind them n more that are neither LF nor CR.
-module _ (s : List ℕ) (k n : ℕ) (h : k ≤ length s) (f : free 10 13 (take k s) ≡ true) (e : n ≡ bytes_from inner 0 (take (length s - k) (drop k s))) where
-  line-behind : not_line_ending_of s ≡ line_before (k + n) (drop (k + n) s)
+-- The rest of the line by the code: n bytes at the front are neither LF nor CR.
+module _ (s : List ℕ) (n : ℕ) (e : n ≡ free_front_of 10 13 13 s) where
+  line-behind : not_line_ending_of s ≡ line_before n (drop n s)
   line-behind =
-      let m : n ≡ bytes_from inner 0 (drop k s) = e ∙ ap (bytes_from inner 0) (part-from s k) in
-      line-skipped s k h f ∙ line-run (drop k s) k ∙ rw (← m) (ap (line_before (k + n)) (drop-drop n k s))
+      let m : n ≡ bytes_from inner 0 s = e ∙ bytes-same (is_other 10 13 13) inner other-inner s in
+      let z : 0 + bytes_from inner 0 s ≡ n = omega (arith, m) in
+      line-run s 0 ∙ ap₂ line_before z (ap (λ (k : ℕ). drop k s) (sym m))
 
   -- they are all
-  pub line-whole : k + n ≡ length s → not_line_ending_of s ≡ Some (k + n)
-  line-whole g = line-behind ∙ ap (line_before (k + n)) (drop-end s (k + n) (omega arith))
+  pub line-whole : n ≡ length s → not_line_ending_of s ≡ Some n
+  line-whole g = line-behind ∙ ap (line_before n) (drop-end s n (omega arith))
 
   -- or the answer r is that of the line ending behind them
-  pub line-ends : (k + n ≡ length s → ⊥) → (r : Option ℕ) → r ≡ line_ending_of (take (length s - (k + n)) (drop (k + n) s)) → not_line_ending_of s ≡ line_by (k + n) r
+  pub line-ends : (n ≡ length s → ⊥) → (r : Option ℕ) → r ≡ line_ending_of (take (length s - n) (drop n s)) → not_line_ending_of s ≡ line_by n r
   line-ends g r w =
-      let le : n ≤ length (take (length s - k) (drop k s)) = rw e (bytes-within inner _) in
-      let d = drop-next s (k + n) (omega (arith, le, length-take (length s - k) (drop k s), length-drop k s)) in
-      line-behind ∙ ap (line_before (k + n)) d ∙ ap (λ (l : List ℕ). line_by (k + n) (line_ending_of l)) (sym d ∙ sym (part-from s (k + n))) ∙ ap (line_by (k + n)) (sym w)
+      let d = drop-next s n (omega (arith, e, bytes-within (is_other 10 13 13) s)) in
+      line-behind ∙ ap (line_before n) d ∙ ap (λ (l : List ℕ). line_by n (line_ending_of l)) (sym d ∙ sym (part-from s n)) ∙ ap (line_by n) (sym w)
 
 -- One step of `bytes_from` at a position of a text, by the test.
 module _ (f : ℕ → Bool) (s : List ℕ) (i : ℕ) where

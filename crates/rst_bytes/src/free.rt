@@ -1,8 +1,10 @@
-// Bytes that are none of some others, passed many at a time. What is sought may stand far ahead, and the loop that looks byte by byte
-// is left to the last few.
-ghost use Rattle.std.specs.Prelude.{◌≡◌, true, ◌≤◌, length, take};
+// Bytes that are none of some others, passed many at a time.
+ghost use Rattle.std.specs.Prelude.{◌≡◌, ◌≤◌, length};
 ghost use Rattle.rst_bytes.specs.Escaped.{is_stop};
-ghost use Rattle.rst_bytes.specs.Appending.{free};
+ghost use Rattle.rst_bytes.specs.Free.{is_other, free_front_of};
+
+use crate::lanes;
+use std::simd::prelude::*;
 
 // Whether b is p or q.
 #[tactic(auto, unfolding(crate::specs::Escaped::is_stop))]
@@ -12,22 +14,26 @@ pub fn is_stop(p: u8, q: u8, b: u8) -> bool
     b == p || b == q
 }
 
-// Whether no byte is p or q. All bytes are looked at, whatever was found: so they are compared many at once. Not by the library's
-// `contains`: it looks for one byte and then for the other, and a call on blocks that are no targets took 3 to 15 in 100 instructions more.
-fn is_free(s: &[u8], p: u8, q: u8) -> bool
-    ensures { result ≡ free p q s.now }
+// Whether b is none of p, q and x.
+#[tactic(auto, unfolding(crate::specs::Free::is_other))]
+fn is_other(p: u8, q: u8, x: u8, b: u8) -> bool
+    ensures { result ≡ is_other p q x b }
 {
-    s.iter().fold(true, |is, &b| is & !is_stop(p, q, b))
+    !(is_stop(p, q, b) || b == x)
 }
 
-// So many bytes at the front that none of them is p, q or x, counted by 16.
+// How many bytes at the front are none of p, q and x. They are passed by 16, and the last ones, fewer than 16, one by one.
 pub fn free_front(s: &[u8], p: u8, q: u8, x: u8) -> usize
     ensures within { result ≤ length s.now }
-    ensures free { (free p q (take result s.now) ≡ true) × (free x x (take result s.now) ≡ true) }
+    ensures front { result ≡ free_front_of p q x s.now }
 {
-    let (chunks, _) = s.as_chunks::<16>();
-    16 * chunks
-        .iter()
-        .take_while(|chunk| is_free(&chunk[..], p, q) && is_free(&chunk[..], x, x))
-        .count()
+    let mut i = 0;
+    while let Some(chunk) = s[i..].first_chunk::<16>() {
+        let n = lanes::free_front(u8x16::from_array(*chunk), p, q, x);
+        i += n;
+        if n < 16 {
+            return i;
+        }
+    }
+    i + s[i..].iter().take_while(|&&b| is_other(p, q, x, b)).count()
 }

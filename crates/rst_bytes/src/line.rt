@@ -11,7 +11,7 @@ ghost use Rattle.rst_bytes.specs.Line.{
   multispace0_of,
 };
 
-use crate::free::{free_front, is_stop};
+use crate::free::free_front;
 
 // LF.
 #[tactic(auto, unfolding(crate::specs::Line::newline_of))]
@@ -39,12 +39,7 @@ pub fn line_ending(s: &[u8]) -> Option<usize>
 pub fn not_line_ending(s: &[u8]) -> Option<usize>
     ensures { result ≡ not_line_ending_of s.now }
 {
-    let front = free_front(s, b'\n', b'\r', b'\r');
-    let rest = s[front..]
-        .iter()
-        .take_while(|&&b| !is_stop(b'\n', b'\r', b))
-        .count();
-    let i = front + rest;
+    let i = free_front(s, b'\n', b'\r', b'\r');
     if i == s.len() {
         return Some(i);
     }

@@ -17,6 +17,9 @@ impl Walk<'_> {
         requires { Walked self.now rest.now }
         ensures { IfSome result (λ k. (k < length front.now) × NoTarget (drop k (front.now ++ rest.now))) }
     {
+        if !may_be_header(front) {
+            return None;
+        }
         match front {
             [before @ .., b'_', b'_', b' '] => self.free_at_header(before, false, rest),
             [before @ .., b'.', b'.', b' ', b'_'] => self.free_at_header(before, true, rest),
@@ -62,6 +65,15 @@ impl Walk<'_> {
             _ => plain,
         }
     }
+}
+
+// Whether a header may stand at the end of s: told of its last four bytes at once, since at most places none does.
+fn may_be_header(s: &[u8]) -> bool {
+    let Some(last) = s.last_chunk::<4>() else {
+        return true;
+    };
+    let bytes = u32::from_be_bytes(*last);
+    bytes == 0x2E2E_205F || bytes & 0xFF_FFFF == 0x5F_5F20
 }
 
 // Where the blanks at the end of s begin.

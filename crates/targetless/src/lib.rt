@@ -33,7 +33,7 @@ pub fn mark(s: &[u8], marks: &mut [u8])
         if let Some(k) = walk.free_before(&s[..=i], &s[i + 1..]) {
             marks[k] = 1;
         }
-        let spaced = matches!(&s[..i], [.., b' ']);
+        let spaced = matches!(&s[..i], [.., b':' | b'_' | b' ', b' ']);
         walk.step(&s[i..], spaced);
     }
 }

@@ -14,7 +14,7 @@ use driver::document::DOCUMENT_MAX;
 use std::hint::black_box;
 
 /// What a document call on plain prose may take, in plain passes.
-const PASSES: f64 = 4.0;
+const PASSES: f64 = 1.0;
 
 /// An input at one size, and its times in each run.
 struct Row {
@@ -105,9 +105,9 @@ fn rows(words: &Words, real: &[Note], areas: &mut Areas) -> Vec<Row> {
 /// The times of the call on plain prose, of zeroing, and of both passes with it.
 fn passes(samples: u32, areas: &mut Areas) -> [Time; 4] {
     let prose = &repeated(PROSE, DOCUMENT_MAX)[..];
-    let mut lent = Areas::new();
-    let mut summed = Areas::new();
-    let mut summed_short = Areas::new();
+    let mut lent = pass::middle_areas();
+    let mut summed = pass::middle_areas();
+    let mut summed_short = pass::middle_areas();
     times(
         samples,
         [

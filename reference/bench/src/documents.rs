@@ -103,8 +103,8 @@ fn spaced(piece: &str, links: usize, text: &str, len: usize) -> Vec<u8> {
 
 pub const INPUTS: [Input; 32] = [
     grown!("plain prose", Some(0.1), |n| repeated(PROSE, n)),
-    single!("a short note", Some(0.2), NOTES),
-    grown!("250 references with targets", Some(0.2), referred),
+    single!("a short note", Some(0.15), NOTES),
+    grown!("250 references with targets", Some(0.15), referred),
     grown!("alias chain forwards", Some(1.0), |n| chain(n, "a")),
     grown!("alias chain backwards", Some(1.0), chain_back),
     grown!("alias chain forwards, long names", Some(1.0), |n| chain(

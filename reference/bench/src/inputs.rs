@@ -1,6 +1,7 @@
 //! The documents that the single-link call is timed on, each of a kind that can be
 //! made at any length.
 
+use crate::drawn::Drawn;
 use crate::texts::{NOTES, PROSE, REFERENCES, between, nested, repeated};
 
 /// A kind of documents.
@@ -10,7 +11,7 @@ pub struct Input {
     pub make: fn(usize) -> Vec<u8>,
 }
 
-pub const INPUTS: [Input; 25] = [
+pub const INPUTS: [Input; 26] = [
     Input {
         name: "prose",
         make: |n| repeated(PROSE, n),
@@ -110,5 +111,13 @@ pub const INPUTS: [Input; 25] = [
     Input {
         name: "links before '.. ' with all lines behind",
         make: |n| repeated("    a_ .. c\n", n),
+    },
+    Input {
+        name: "links before names that do not end, then drawn escapes",
+        make: |n| {
+            let mut doc = Vec::new();
+            Drawn::links().make(n, &mut doc);
+            doc
+        },
     },
 ];

@@ -1,12 +1,16 @@
 //! Looks for documents on which the document call takes long. All units of one to
 //! three tokens are tried with heads and tails in short documents, one call each; of
 //! each kind of body the slowest is kept. The slowest of these are called once at
-//! full length, and the slowest of them timed, in turn with plain prose. Units of one
-//! and two tokens are tried at full length too, behind links before blocks.
+//! full length, and the slowest of them timed, in turn with the plain pass and zeroing.
+//! Units of one and two tokens are tried at full length too, behind links before
+//! blocks. Documents without a period are drawn at full length, and it is climbed by
+//! time from the slowest of them.
 
 use crate::blocks;
+use crate::climb::Climb;
 use crate::documents::INPUTS;
 use crate::named::{LENGTHS, WAYS, make};
+use crate::pass;
 use crate::shapes::{Body, HEADS, PIECES, SHORT_HEADS, Shape, TAILS, TOKENS, joined};
 use crate::show::{held, machine};
 use crate::texts::{PROSE, repeated};
@@ -23,8 +27,8 @@ use std::time::Instant;
 const CALLED: usize = 400;
 const TIMED: usize = 100;
 
-/// What the slowest document may take, in times of plain prose.
-const BAR: f64 = 100.0;
+/// What the slowest document may take, in plain passes with zeroing.
+const BAR: f64 = 150.0;
 
 /// The slowest document of each kind of body that was met.
 struct Search {
@@ -194,11 +198,12 @@ fn known() -> Vec<(String, Vec<u8>)> {
     one.collect()
 }
 
-/// Times documents in turn with plain prose, and prints the slowest first.
+/// Times documents in turn with the plain pass over as many bytes and zeroing, and
+/// prints the slowest first.
 fn show(list: Vec<(String, Vec<u8>)>, samples: u32) {
     let prose = repeated(PROSE, DOCUMENT_MAX);
     let mut areas = Areas::new();
-    let mut other = Areas::new();
+    let mut other = pass::middle_areas();
     let mut rows: Vec<_> = list
         .iter()
         .map(|(name, doc)| {
@@ -210,7 +215,8 @@ fn show(list: Vec<(String, Vec<u8>)>, samples: u32) {
                         black_box(areas.call(black_box(doc)));
                     },
                     &mut || {
-                        black_box(other.call(black_box(&prose)));
+                        pass::sum(black_box(&prose));
+                        pass::zero(&mut other);
                     },
                 ],
             );
@@ -218,7 +224,7 @@ fn show(list: Vec<(String, Vec<u8>)>, samples: u32) {
         })
         .collect();
     rows.sort_by(|a, b| b.0.total_cmp(&a.0));
-    println!("   /prose          µs    ± number  bytes  [head] [unit]* [tail]");
+    println!("    /pass          µs    ± number  bytes  what");
     for (ratio, time, number, len, name) in &rows {
         println!(
             "{ratio:>9.2}{:>12.1}{:>4.0}%{number:>7}{len:>7}  {name}",
@@ -228,9 +234,36 @@ fn show(list: Vec<(String, Vec<u8>)>, samples: u32) {
     }
     let most = rows.first().map_or(0.0, |row| row.0);
     println!(
-        "the slowest takes {most:.2} times as long as plain prose{}",
+        "the slowest takes {most:.2} times as long as the plain pass with zeroing{}",
         held(most, Some(BAR))
     );
+}
+
+/// The slowest ones of those without a period.
+fn climbed(words: &Words) -> Vec<(String, Vec<u8>)> {
+    let began = Instant::now();
+    let mut climb = Climb::new(words.seed);
+    climb.run(words.climb);
+    println!(
+        "{:>9} documents of full length without a period, {:.0} s",
+        climb.documents,
+        began.elapsed().as_secs_f64(),
+    );
+    climb.slowest()
+}
+
+/// The climb alone. The slowest documents are written to a folder, if one is named.
+pub fn climb(words: &Words) {
+    println!("{}", machine());
+    let list = climbed(words);
+    if let Some(folder) = &words.into {
+        std::fs::create_dir_all(folder).expect("the folder can be made");
+        for (number, (_, doc)) in list.iter().enumerate() {
+            let file = folder.join(format!("{number:02}.rst"));
+            std::fs::write(file, doc).expect("the folder can be written to");
+        }
+    }
+    show(list, words.samples);
 }
 
 pub fn run(words: &Words) {
@@ -261,5 +294,6 @@ pub fn run(words: &Words) {
     list.extend(blocks);
     list.extend(named());
     list.extend(known());
+    list.extend(climbed(words));
     show(list, words.samples);
 }

@@ -4,7 +4,7 @@ use std::path::PathBuf;
 use std::str::FromStr;
 
 pub struct Words {
-    /// `document`, `single` or `search`.
+    /// `document`, `single`, `search` or `climb`.
     pub command: String,
     pub samples: u32,
     pub runs: u32,
@@ -15,7 +15,11 @@ pub struct Words {
     /// What the bodies of the search do not hold.
     pub without: Option<String>,
     pub minutes: f64,
+    /// How long the climb takes, in minutes.
+    pub climb: f64,
     pub seed: u64,
+    /// The folder that the slowest documents are written to.
+    pub into: Option<PathBuf>,
     /// A part of the names of the inputs.
     part: String,
 }
@@ -37,20 +41,24 @@ impl Words {
             bytes: 1 << 12,
             without: None,
             minutes: 0.0,
+            climb: 5.0,
             seed: 1,
+            into: None,
             part: String::new(),
         };
         let mut words = std::env::args().skip(1);
         while let Some(word) = words.next() {
             match word.as_str() {
-                "document" | "single" | "search" => said.command = word,
+                "document" | "single" | "search" | "climb" => said.command = word,
                 "--samples" => said.samples = behind(&word, &mut words),
                 "--runs" => said.runs = behind(&word, &mut words),
                 "--notes" => said.notes = behind(&word, &mut words),
                 "--bytes" => said.bytes = behind(&word, &mut words),
                 "--without" => said.without = Some(behind(&word, &mut words)),
                 "--minutes" => said.minutes = behind(&word, &mut words),
+                "--climb" => said.climb = behind(&word, &mut words),
                 "--seed" => said.seed = behind(&word, &mut words),
+                "--into" => said.into = Some(behind(&word, &mut words)),
                 _ if word.starts_with("--") => panic!("{word} is no option"),
                 _ => said.part = word,
             }

@@ -23,15 +23,8 @@ returns-in-Some-clause-known c =
     let d = c.block.new.scratch in
     after-holds p.text.now p.marks.now d p.at c.args.known.now (Some c.in-Some.x) _ c.requires.known (is-scanned c.in-Some.is d ∙ c.block.ensures.scan)
 
-pub returns-then-is_long-clause-step : goal.returns-then-is_long-clause-step
-returns-then-is_long-clause-step c =
-    let p = c.args.place in
-    let f : c.is_read.result ≡ true = search rules in
-    let e = c.block.ensures.scan ∙ ap (λ (b : Bool). behind p.at (block_at rst b (rest_of p))) (sym f) ∙ ap (behind p.at) c.is_read.ensures in
-    line-blank p.at (rest_of p) c.args.line (is-scanned c.in_default.is c.block.new.scratch ∙ e)
-
-pub returns-else-is_long-clause-step : goal.returns-else-is_long-clause-step
-returns-else-is_long-clause-step c =
+pub returns-clause-step : goal.returns-clause-step
+returns-clause-step c =
     let p = c.args.place in
     let f : c.is_read.result ≡ true = search rules in
     let e = c.block.ensures.scan ∙ ap (λ (b : Bool). behind p.at (block_at rst b (rest_of p))) (sym f) ∙ ap (behind p.at) c.is_read.ensures in

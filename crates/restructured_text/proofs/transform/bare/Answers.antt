@@ -1,9 +1,7 @@
--- `transform::bare` meets its contract: the bytes at the front that pass are counted.
+-- `transform::bare` meets its contract: of the bytes before a backslash, a space or a tab those before CR or LF.
 -- Assumes nothing.
-use Rattle.std.proofs.Common.{rules, tests}
-use Rattle.rst_bytes.proofs.LineLaws.{bytes-take_while}
-use Rattle.restructured_text.specs.Inner.{is_bare}
+use Rattle.restructured_text.proofs.TransformLaws.{bare-by}
 use Rattle.restructured_text.proofs.transform.bare.Goals as goal
 
 pub returns : goal.returns
-returns c = bytes-take_while _ is_bare c.args.d.now _ c.count.ensures.ran (cc) c.take_while.ensures.closure c.take_while.ensures.done (λ x b q k. search (rules, tests))
+returns c = bare-by c.args.d.now c.free_front-n.result c.free_front.result c.free_front-n.ensures.front c.free_front.ensures.front

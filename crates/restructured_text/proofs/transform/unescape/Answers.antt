@@ -9,7 +9,7 @@ use Rattle.restructured_text.proofs.transform.unescape.Goals as goal
 use Rattle.restructured_text.proofs.transform.unescape.Goals.{then-gives_itself, else-gives_itself}
 
 pub loop-i-init : goal.loop-i-init
-loop-i-init c = unescaped-start _ _ _ c.bare-front.ensures
+loop-i-init c = unescaped-start _ _ _ c.free_front-front.ensures.front
 
 pub returns-in_err-e : goal.returns-in_err-e
 returns-in_err-e c =

@@ -1,11 +1,19 @@
--- `escaped::take_escaped` meets its contract: one step of `taking` for each arm that goes on, and many where bytes are taken at once.
+-- `escaped::take_escaped` meets its contract: a byte or an escape that is taken, and then many.
 -- Assumes nothing.
-use Rattle.std.proofs.Common.{◌∙◌}
-use Rattle.rst_bytes.proofs.EscapedLaws.{taking-passed}
+use Rattle.std.proofs.Common.{◌∙◌, ◌+◌, ◌≤◌, ap, length, arith}
+use lib.ListN.{length-drop}
+use Rattle.rst_bytes.proofs.Lists.{part-from}
+use Rattle.rst_bytes.proofs.EscapedLaws.{one-over, front-within, front-over}
 use Rattle.rst_bytes.proofs.escaped.take_escaped.Goals as goal
 
-pub loop-preserved : goal.loop-preserved
-loop-preserved c =
+pub loop-n-preserved : goal.loop-n-preserved
+loop-n-preserved c =
     let s = c.args in
-    let w = taking-passed s.p s.q s.s.now c.loop-2.i _ c.loop-2.invariant.1 c.free_front-i.ensures.within c.free_front-i.ensures.free in
-    (w.0, c.loop-2.invariant.2 ∙ w.1)
+    let i = c.loop-n.i in
+    let n = c.in_ok-n.n in
+    let f = c.escaped_front-i in
+    let w : i + n ≤ length s.s.now = omega (arith, c.in_ok-n.ensures.within, ap length (part-from s.s.now i), length-drop i s.s.now, c.loop-n.invariant.0) in
+    let one = one-over s.p s.q s.s.now i n (omega arith) (c.in_ok-n.ensures.taken i) in (
+      front-within s.p s.q s.s.now (i + n) f.result w f.ensures.within f.ensures.taken,
+      c.loop-n.invariant.1 ∙ one ∙ front-over s.p s.q s.s.now (i + n) f.result w f.ensures.within f.ensures.taken,
+    )

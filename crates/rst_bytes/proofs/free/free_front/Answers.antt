@@ -1,20 +1,35 @@
--- `free::free_front` meets its contract: chunks of 16 bytes are counted, of each of which both tests hold.
+-- `free::free_front` meets its contract: by each 16 bytes, and by the last ones.
 -- Assumes nothing.
-use Rattle.std.proofs.Common.{◌∙◌, ◌/◌, length, rules, tests}
-use Rattle.std.specs.Simd.{first_chunks}
-use Rattle.std.proofs.lemmas.Iterator.{YieldsList-from_slice}
-use Rattle.std.proofs.lemmas.Iterator.Consumers.{count_from_yields_List}
-use Rattle.std.proofs.lemmas.Iterator.Search.{YieldsList-from_take_while}
-use Rattle.std.proofs.lemmas.List.Folds.{length-prefix_len}
-use Rattle.rst_bytes.proofs.FreeLaws.{frees, free-front}
+use Rattle.std.proofs.Common.{rules, tests, arith, ap, ◌∙◌}
+use Rattle.rst_bytes.specs.Line.{bytes_from}
+use Rattle.rst_bytes.specs.Free.{is_other}
+use Rattle.rst_bytes.proofs.Lists.{part-from}
+use Rattle.rst_bytes.proofs.LineLaws.{bytes-take_while}
+use Rattle.rst_bytes.proofs.FreeLaws.{chunk-within, chunk-stops, chunk-passes}
 use Rattle.rst_bytes.proofs.free.free_front.Goals as goal
 
-pub returns-clause-free : goal.returns-clause-free
-returns-clause-free c =
+pub overflow_add-i : goal.overflow_add-i
+overflow_add-i c =
     let s = c.args in
-    let test = frees s.p s.q s.x in
-    let chunks = first_chunks 16 (length s.s.now / 16) s.s.now in
-    let n =
-    count_from_yields_List c.take_while.result c.count.result c.count.ensures.ran (YieldsList-from_take_while _ test (YieldsList-from_slice chunks (cc)) c.take_while.ensures.closure c.take_while.ensures.done (λ x b q k. search (rules, tests)))
-    ∙ length-prefix_len test chunks in
-    free-front s.p s.q s.x (length s.s.now / 16) s.s.now c.count.result n
+    let l = c.loop-chunk in
+    record { fits = omega (arith, chunk-within (is_other s.p s.q s.x) s.s.now c.in-Some.chunk.now l.i c.free_front-n.result l.invariant.0 l.invariant.1 c.in-Some.ensures.cases c.free_front-n.ensures) }
+
+pub returns-then-n-lt16-clause-front : goal.returns-then-n-lt16-clause-front
+returns-then-n-lt16-clause-front c =
+    let s = c.args in
+    let l = c.loop-chunk in
+    chunk-stops (is_other s.p s.q s.x) s.s.now c.in-Some.chunk.now l.i c.free_front-n.result l.invariant.0 l.invariant.1 c.in-Some.ensures.cases c.free_front-n.ensures c.if-n-lt16.true
+
+pub loop-chunk-preserved : goal.loop-chunk-preserved
+loop-chunk-preserved c =
+    let s = c.args in
+    let l = c.loop-chunk in
+    chunk-passes (is_other s.p s.q s.x) s.s.now c.in-Some.chunk.now l.i c.free_front-n.result l.invariant.0 l.invariant.1 c.in-Some.ensures.cases c.free_front-n.ensures c.if-n-lt16.false
+
+pub returns-clause-front : goal.returns-clause-front
+returns-clause-front c =
+    let s = c.args in
+    let f = is_other s.p s.q s.x in
+    let l = c.loop-chunk in
+    let n = bytes-take_while _ f _ _ c.count.ensures.ran (cc) c.take_while.ensures.closure c.take_while.ensures.done (λ x b q k. search (rules, tests)) in
+    omega (arith, l.invariant.1, n ∙ ap (bytes_from f 0) (part-from s.s.now l.i))

@@ -1,6 +1,10 @@
--- So many blanks stand directly before a place that there are no more of them than bytes before it.
-use Rattle.std.proofs.Common.{◌≤◌}
+-- `indents::note` meets its contract. The measure is what is left.
+-- Assumes nothing.
+use Rattle.std.proofs.Common.{◌-◌, ◌≤◌, length}
 use Rattle.targetless.proofs.indents.note.Given as goal
 
 abbrev pub invariant-loop-i : goal.invariant-loop-i
-invariant-loop-i l = l.blanks ≤ l.i
+invariant-loop-i l = l.i ≤ length l.s
+
+abbrev pub decreases-loop-i : goal.decreases-loop-i
+decreases-loop-i l = length l.s - l.i
