@@ -8,7 +8,7 @@ ghost use Rattle.parse.specs.Inner.{Barren, Behind, LineStart, Passes};
 
 use crate::dull::pass_dull;
 use crate::rounds::{is_start, newlines};
-use memchr::memchr2;
+use memchr::{memchr2, memrchr};
 use restructured_text::target::starts_target;
 use rst_bytes::free::free_front;
 use rst_bytes::line::is_space;
@@ -37,12 +37,14 @@ fn ends_word(s: &[u8], j: usize) -> bool
     is_space(s[j]) && is_behind(s, j)
 }
 
-// The last place between i and k at which a line ends.
+// The last place between i and k at which a line ends. The last LF is found many bytes at a time; few LFs stand behind a byte at which (f)
+// stops.
 fn last_line(s: &[u8], i: usize, k: usize) -> Option<usize>
     requires { (i ≤ k) × (k ≤ length s.now) }
     ensures { IfSome result (λ j. (i < j) × (j ≤ k) × Behind is_lf j s.now) }
 {
-    (i + 1..k).rev().find(|&j| ends_line(s, j))
+    let n = memrchr(b'\n', &s[i..k])?;
+    (i + 1..i + n + 1).rev().find(|&j| ends_line(s, j))
 }
 
 // The last one at which a word ends. It is no instance of a function that takes the test, nor is `ends_word` one: what that would ask of the

@@ -15,7 +15,7 @@ mod place;
 mod refusal;
 mod rounds;
 
-ghost use Rattle.std.specs.Prelude.{◌≡◌, ℕ, ◌+◌};
+ghost use Rattle.std.specs.Prelude.{◌≡◌, ℕ, ◌+◌, ◌≤◌, OnErr};
 ghost use Rattle.parse.specs.Link.{scanned_of, Ends, lent};
 ghost use Rattle.parse.specs.Scan.{scan_of};
 ghost use Rattle.parse.specs.Single.{outcome_of, single_of, Fronts};
@@ -84,7 +84,8 @@ const FAILED_LEAST: usize = 1024;
 impl Known {
     // The block at place i, where s stands, was read and is none. Where the places are marked it counts no more.
     fn add_failed(&mut self, i: usize, s: &[u8])
-        ensures { self.new ≡ record self.old { failed = self.new.failed } }
+        ensures rest { self.new ≡ record self.old { failed = self.new.failed } }
+        ensures counted { self.old.failed ≤ self.new.failed }
     {
         if self.marked <= i {
             self.failed = self.failed.saturating_add(reach(s));
@@ -119,10 +120,31 @@ pub fn take_link(s: &[u8], scratch: &mut [u8]) -> Result<Link, ParseError>
     next_link(s, scratch, &mut [], &mut known)
 }
 
-// The same where something is known; where a link is found, `known` is left as what is known behind it. It is `iterator` that goes from link
-// to link so. This alone of the public functions asks something of its caller: that what it hands in is true, as what it was left is. The
-// marks are one for each place of the text; where there are fewer, none is set.
+// The same where something is known; where a link is found, `known` is left as what is known behind it, and else as it was. It is `iterator` that
+// goes from link to link so. This alone of the public functions asks something of its caller: that what it hands in is true, as what it was left
+// is. The marks are one for each place of the text; where there are fewer, none is set.
 pub fn next_link(
+    s: &[u8],
+    scratch: &mut [u8],
+    marks: &mut [u8],
+    known: &mut Known,
+) -> Result<Link, ParseError>
+    requires known { Holds 0 known.old marks.old s.now }
+    ensures scan { scanned_of result scratch.new ≡ lent s.now scratch.old (scan_of s.now) }
+    ensures ends { Ends result }
+    ensures known { TrueBehind s.now marks.new known.new result }
+    ensures kept { OnErr result (known.new ≡ known.old) }
+{
+    let entry = *known;
+    let found = scan_link(s, scratch, marks, known);
+    if found.is_err() {
+        *known = entry;
+    }
+    found
+}
+
+// Goes from round to round. Where no link is found, what the rounds learnt is known of places behind the front alone.
+fn scan_link(
     s: &[u8],
     scratch: &mut [u8],
     marks: &mut [u8],

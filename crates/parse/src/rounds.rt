@@ -115,12 +115,16 @@ fn inline_at(place: Place, scratch: &mut [u8], spaced: bool, known: &mut Known) 
     reference_at(place, scratch, spaced, known)
 }
 
-// (f) One of the bytes at which a link may start.
+// (f) One of the bytes at which a link may start. Above `<`, where most bytes of a text are, three alone are asked for.
 #[tactic(auto, unfolding(crate::specs::Scan::is_start))]
 pub fn is_start(b: u8) -> bool
     ensures { result ≡ is_start b }
 {
-    matches!(b, b'\n' | b' ' | b'\t' | b'`' | b'!' | b'[' | b'{' | b'<')
+    if b <= b'<' {
+        matches!(b, b'\n' | b' ' | b'\t' | b'!' | b'<')
+    } else {
+        matches!(b, b'`' | b'[' | b'{')
+    }
 }
 
 // (f) How many other bytes stand at the front.

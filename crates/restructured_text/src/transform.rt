@@ -1,6 +1,6 @@
 // The two transforms, each in place: the lent part holds the raw text, and its front then the transformed one.
 ghost use Rattle.std.specs.Prelude.{◌≡◌};
-ghost use Rattle.rst_bytes.specs.Line.{bytes_from};
+ghost use Rattle.rst_bytes.specs.Line.{bytes_from, is_multispace};
 ghost use Rattle.restructured_text.specs.Inner.{is_bare};
 ghost use Rattle.restructured_text.specs.Transform.{
   is_destination_escapable,
@@ -32,6 +32,14 @@ fn gives_itself(keep: bool, b: u8) -> bool
     ensures { result ≡ gives keep b }
 {
     b != b' ' || keep
+}
+
+// Whether b is space, tab, CR or LF. Above a space, as most bytes are, none is.
+#[tactic(auto, unfolding(rst_bytes::specs::Line::is_space, rst_bytes::specs::Line::is_multispace))]
+fn is_whitespace(b: u8) -> bool
+    ensures { result ≡ is_multispace b }
+{
+    b <= b' ' && is_multispace(b)
 }
 
 // How many bytes at the front are neither a backslash nor whitespace: what no transform changes.
@@ -92,7 +100,7 @@ fn remove_whitespace(d: &mut [u8]) -> Option<usize>
             n += 2;
             i += 2;
         } else {
-            if !is_multispace(b) {
+            if !is_whitespace(b) {
                 d[n] = b;
                 n += 1;
             }

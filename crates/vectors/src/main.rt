@@ -25,15 +25,16 @@ use filling::read_full;
 use std::rt::Files;
 use std::{fs, io};
 
-// Reads a file, as far as the buffer holds it: the count that it begins with, and what follows.
+// Reads a file, as far as the buffer holds it: the count that the buffer begins with, and what follows it in the file. Where the file ends within
+// the count, the buffer tells its last bytes.
 fn load<'a, R: Files>(rt: &R, name: &str, buf: &'a mut [u8]) -> io::Result<(usize, Rest<'a>)>
     ensures { IfOk result (λ p. length p.1.left.now ≤ length buf.old) }
 {
     let mut file = fs::open(rt, name)?;
     let n = read_full(&mut file, buf)?;
-    let mut rest = Rest { left: &buf[..n] };
-    let recorded = rest.four().unwrap_or(0) as usize;
-    Ok((recorded, rest))
+    let recorded = Rest { left: buf }.four().unwrap_or(0) as usize;
+    let left = buf[..n].get(4..).unwrap_or(&[]);
+    Ok((recorded, Rest { left }))
 }
 
 // The pieces' answers.

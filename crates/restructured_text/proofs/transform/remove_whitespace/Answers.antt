@@ -6,7 +6,7 @@ use mathlib.Core.Path.{sym, ◌∙◌}
 use native.Mathlib.Omega.{arith}
 use Rattle.restructured_text.proofs.TransformLaws.{kept-start, skip, write, write_two, ends-bad, ends-well, at-end, at-alone, at-wrong, at-two, at-blank, at-unblank}
 use Rattle.restructured_text.proofs.transform.remove_whitespace.Goals as goal
-use Rattle.restructured_text.proofs.transform.remove_whitespace.Goals.{then-not-is_multispace, else-not-is_multispace}
+use Rattle.restructured_text.proofs.transform.remove_whitespace.Goals.{then-not-is_whitespace, else-not-is_whitespace}
 
 pub loop-i-init : goal.loop-i-init
 loop-i-init c = kept-start _ _ c.bare-front.ensures
@@ -32,11 +32,11 @@ loop-i-preserved-then-b-eq92 c =
 pub loop-i-preserved : goal.loop-i-preserved
 loop-i-preserved c =
     let l = c.loop-i in
-    elim c.if-not-is_multispace.branch [
-      | then-not-is_multispace w ↦ rw (w.d-is, w.n-is)
-          (write l.invariant 1 _ (omega arith) (omega arith) (at-unblank l.d l.i (omega arith) c.if-b-eq92.false (sym c.is_multispace.ensures ∙ w.if-not-is_multispace.true)))
-      | else-not-is_multispace w ↦ rw (w.d-is, w.n-is)
-          (skip l.invariant 1 (omega arith) (at-blank l.d l.i (omega arith) c.if-b-eq92.false (sym c.is_multispace.ensures ∙ w.if-not-is_multispace.false)))
+    elim c.if-not-is_whitespace.branch [
+      | then-not-is_whitespace w ↦ rw (w.d-is, w.n-is)
+          (write l.invariant 1 _ (omega arith) (omega arith) (at-unblank l.d l.i (omega arith) c.if-b-eq92.false (sym c.is_whitespace.ensures ∙ w.if-not-is_whitespace.true)))
+      | else-not-is_whitespace w ↦ rw (w.d-is, w.n-is)
+          (skip l.invariant 1 (omega arith) (at-blank l.d l.i (omega arith) c.if-b-eq92.false (sym c.is_whitespace.ensures ∙ w.if-not-is_whitespace.false)))
     ]
 
 pub returns : goal.returns

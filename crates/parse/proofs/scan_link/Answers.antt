@@ -1,4 +1,4 @@
--- `next_link` meets its contract. The loop's invariant: the scan from the front is that from i on, i bytes being skipped, and what is
+-- `scan_link` meets its contract. The loop's invariant: the scan from the front is that from i on, i bytes being skipped, and what is
 -- known holds from i on, with the marks as they are. Calm text is passed; the marks may be written, and what is known holds then too; a
 -- round ends the scan, or passes some bytes: the measure is what is left.
 -- Where it ends with a link, what was known in front of it is true behind it, and what is told of blocks there is true.
@@ -9,7 +9,7 @@ use Rattle.parse.specs.Scan.{scan_with, scan_of}
 use Rattle.parse.proofs.ScanLaws.{rounds-end}
 use Rattle.parse.proofs.OnwardLaws.{found_within}
 use Rattle.parse.proofs.RoundLaws.{scanned_is, step-stops, step-passes, lent-enough}
-use Rattle.parse.proofs.next_link.Goals as goal
+use Rattle.parse.proofs.scan_link.Goals as goal
 
 pub loop-i-init : goal.loop-i-init
 unfolding scan_of scan_with
