@@ -45,11 +45,11 @@ pub fn write_numbered(number: u32, bytes: &mut [u8]) -> usize
     }
 }
 
-// Whether two names are the same. Their last two bytes are compared first, since names that are alike often differ in a number there.
+// Whether two names are the same. Their last eight bytes are compared first, since names that are alike often differ in a number near the end.
 pub fn same_name(a: &[u8], b: &[u8]) -> bool
     ensures { IsTrue result ↔ (a.now ≡ b.now) }
 {
-    a.last_chunk::<2>() == b.last_chunk::<2>() && a == b
+    a.last_chunk::<8>() == b.last_chunk::<8>() && a == b
 }
 
 // The bucket that a name belongs to, by all of its bytes: names that are the same belong to the same.

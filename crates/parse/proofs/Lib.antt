@@ -10,6 +10,7 @@ pub mod BarredLaws
 pub mod RoundLaws
 pub mod CalmLaws
 pub mod DullLaws
+mod StartsLaws
 pub mod OnwardLaws
 pub mod SingleLaws
 pub mod SizeLaws

@@ -37,8 +37,7 @@ fn ends_word(s: &[u8], j: usize) -> bool
     is_space(s[j]) && is_behind(s, j)
 }
 
-// The last place between i and k at which a line ends. The last LF is found many bytes at a time; few LFs stand behind a byte at which (f)
-// stops.
+// The last place between i and k at which a line ends. The last LF is looked for many bytes at a time.
 fn last_line(s: &[u8], i: usize, k: usize) -> Option<usize>
     requires { (i ≤ k) × (k ≤ length s.now) }
     ensures { IfSome result (λ j. (i < j) × (j ≤ k) × Behind is_lf j s.now) }

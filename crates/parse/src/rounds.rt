@@ -115,16 +115,23 @@ fn inline_at(place: Place, scratch: &mut [u8], spaced: bool, known: &mut Known) 
     reference_at(place, scratch, spaced, known)
 }
 
-// (f) One of the bytes at which a link may start. Above `<`, where most bytes of a text are, three alone are asked for.
-#[tactic(auto, unfolding(crate::specs::Scan::is_start))]
+// (f) 1 at each byte at which a link may start. A table, since these bytes stand in a text in no order that a processor can foresee.
+const STARTS: [u8; 256] = [
+    0, 0, 0, 0, 0, 0, 0, 0, 0, 1, 1, 0, 0, 0, 0, 0, 0, 0, 0, 0, 0, 0, 0, 0, 0, 0, 0, 0, 0, 0, 0, 0,
+    1, 1, 0, 0, 0, 0, 0, 0, 0, 0, 0, 0, 0, 0, 0, 0, 0, 0, 0, 0, 0, 0, 0, 0, 0, 0, 0, 0, 1, 0, 0, 0,
+    0, 0, 0, 0, 0, 0, 0, 0, 0, 0, 0, 0, 0, 0, 0, 0, 0, 0, 0, 0, 0, 0, 0, 0, 0, 0, 0, 1, 0, 0, 0, 0,
+    1, 0, 0, 0, 0, 0, 0, 0, 0, 0, 0, 0, 0, 0, 0, 0, 0, 0, 0, 0, 0, 0, 0, 0, 0, 0, 0, 1, 0, 0, 0, 0,
+    0, 0, 0, 0, 0, 0, 0, 0, 0, 0, 0, 0, 0, 0, 0, 0, 0, 0, 0, 0, 0, 0, 0, 0, 0, 0, 0, 0, 0, 0, 0, 0,
+    0, 0, 0, 0, 0, 0, 0, 0, 0, 0, 0, 0, 0, 0, 0, 0, 0, 0, 0, 0, 0, 0, 0, 0, 0, 0, 0, 0, 0, 0, 0, 0,
+    0, 0, 0, 0, 0, 0, 0, 0, 0, 0, 0, 0, 0, 0, 0, 0, 0, 0, 0, 0, 0, 0, 0, 0, 0, 0, 0, 0, 0, 0, 0, 0,
+    0, 0, 0, 0, 0, 0, 0, 0, 0, 0, 0, 0, 0, 0, 0, 0, 0, 0, 0, 0, 0, 0, 0, 0, 0, 0, 0, 0, 0, 0, 0, 0,
+];
+
+// (f) One of the bytes at which a link may start.
 pub fn is_start(b: u8) -> bool
     ensures { result ≡ is_start b }
 {
-    if b <= b'<' {
-        matches!(b, b'\n' | b' ' | b'\t' | b'!' | b'<')
-    } else {
-        matches!(b, b'`' | b'[' | b'{')
-    }
+    STARTS[usize::from(b)] == 1
 }
 
 // (f) How many other bytes stand at the front.
