@@ -45,11 +45,14 @@ pub fn write_numbered(number: u32, bytes: &mut [u8]) -> usize
     }
 }
 
-// Whether two names are the same. Their last eight bytes are compared first, since names that are alike often differ in a number near the end.
+// Whether two names are the same. Their last four bytes are compared first, and then eight, where they have as many, since names that are alike
+// often differ in a number near the end.
 pub fn same_name(a: &[u8], b: &[u8]) -> bool
     ensures { IsTrue result ↔ (a.now ≡ b.now) }
 {
-    a.last_chunk::<8>() == b.last_chunk::<8>() && a == b
+    a.last_chunk::<4>() == b.last_chunk::<4>()
+        && a.last_chunk::<8>() == b.last_chunk::<8>()
+        && a == b
 }
 
 // The bucket that a name belongs to, by all of its bytes: names that are the same belong to the same.

@@ -39,7 +39,7 @@ fn gives_itself(keep: bool, b: u8) -> bool
 fn is_whitespace(b: u8) -> bool
     ensures { result ≡ is_multispace b }
 {
-    b == b' ' || (b < b' ' && is_multispace(b))
+    b <= b' ' && is_multispace(b)
 }
 
 // How many bytes at the front are neither a backslash nor whitespace: what no transform changes.
